@@ -1,0 +1,11 @@
+-- Worked examples that antt computes from the definitions: a file for each file of definitions, and the document's own starred grids in `Starred`.
+pub mod Computed
+pub mod Starred
+pub mod Sets
+pub mod Clues
+pub mod Lines
+pub mod Propagation
+pub mod Floats
+pub mod Probing
+pub mod Guesses
+pub mod Answers

@@ -1,0 +1,14 @@
+-- The rules of the search, in the order of the document: words on lists and loops, then each heading in a file of its own.
+pub mod Lists
+pub mod Loops
+pub mod Sets
+pub mod Clues
+pub mod Lines
+pub mod Boards
+pub mod Propagation
+pub mod Floats
+pub mod Probing
+pub mod Guesses
+pub mod Search
+pub mod Answers
+pub mod Examples
