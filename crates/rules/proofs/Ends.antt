@@ -14,7 +14,7 @@ use Rattle.rules.specs.Loops.{Turn, more, stop, Holds, run, Falls}
 use Rattle.rules.specs.Sets.{Colour, has, colours, single, empty}
 use Rattle.rules.specs.Boards.{Board, Cell, at, cells, remove, solved, size, Puzzle}
 use Rattle.rules.specs.Propagation.{check}
-use Rattle.rules.specs.Probing.{Run, steps, Queue, startQueue, Noted, Probed, contradiction, probed, probe}
+use Rattle.rules.specs.Probing.{Run, steps, startQueue, Probed, contradiction, probed, probe}
 use Rattle.rules.specs.Guesses.{Guess, guess}
 use Rattle.rules.specs.Search.{Limits, End, dead, notDead, Left, left, Tried, tried, Node, node, Spent, spent, Pass, over, ranOut, deeper, note, store, sameGuess, among, others, closed, anyClosed, firstUnsolved, met, probedNode, probeNode, lone, afterGuess, passStep, passMeasure, passUnended, pass, again, spentStep, spentMeasure, spentUnended, refill, nodeFrom, tryGuess, search}
 use Rattle.rules.proofs.Tests.{on-test, on-number, by-test, clash, and-true, or-false}

@@ -7,5 +7,6 @@ pub mod Clues
 pub mod Lines
 pub mod Narrowing
 pub mod Propagation
+pub mod Queues
 pub mod Probing
 pub mod Ends

@@ -12,68 +12,22 @@ use lib.Ieee.{Float}
 use Rattle.rules.specs.Lists.{keep, from}
 use Rattle.rules.specs.Loops.{Turn, more, stop, Holds, run, Falls}
 use Rattle.rules.specs.Sets.{Colour, has, members, colours, empty}
+use Rattle.rules.specs.Queues.{Queue, push, waiting, pop}
 use Rattle.rules.specs.Boards.{Board, Cell, at, put, removeAll, solved, size, newly, Puzzle, around}
 use Rattle.rules.specs.Propagation.{propagate}
 use Rattle.rules.specs.Floats.{float, higher}
-use Rattle.rules.specs.Probing.{Event, assumed, Run, steps, event, Queue, push, pushAll, ahead, leader, pop, waits, waiting, Noted, noted, Probing, probing, Probed, contradiction, probed, contradicting, solving, assumedAll, startQueue, pushAround, pushBoth, assume, outcomes, newRound, cut, judge, probeCell, probeStep, probeMeasure, probeUnended, probeOn, probe}
+use Rattle.rules.specs.Probing.{Event, assumed, Run, steps, event, CellQueue, pushAll, Notes, noNotes, Probing, probing, Probed, contradiction, probed, contradicting, solving, assumedAll, startQueue, pushAround, pushBoth, assume, outcomes, newRound, cut, judge, probeCell, probeStep, probeMeasure, probeUnended, probeOn, probe}
 use Rattle.rules.proofs.Tests.{on-test, on-option, by-test, clash}
 use Rattle.rules.proofs.Lists.{In, keep-few, from-low, map-in}
 use Rattle.rules.proofs.Loops.{run-is, run-ends}
 use Rattle.rules.proofs.Sets.{member}
+use Rattle.rules.proofs.Queues.{Popped, pop-some, pop-long, pop-fewer, waiting-few}
 use Rattle.rules.proofs.Narrowing.{_⊑_, ⊑-refl, ⊑-trans, sub-size, removeAll-sub, removeAll-size}
 use Rattle.rules.proofs.Propagation.{propagate-sub}
 
 -- ## The queue
 
--- the cell found waits with the priority found
-abbrev Found : Queue → Option (Cell × Float) → Type 0
-Found q none = Unit {0}
-Found q (some e) = getD q (e .0) none ≡ some (e .1)
-
-ahead-found : (q : Queue) (best : Option (Cell × Float)) (c : Cell) → Found q best → Found q (ahead best c (getD q c none))
-ahead-found q best c f = go best f (getD q c none) refl
-  where
-    go : (best : Option (Cell × Float)) → Found q best → (v : Option Float) → getD q c none ≡ v → Found q (ahead best c v)
-    go best f none h = f
-    go none f (some p) h = h
-    go (some e) f (some p) h = on-test (Found q) (higher p (e .1)) {a = some (c, p)} {b = some e} (λ _. h) (λ _. f)
-
-leader-found : (q : Queue) (cs : List Cell) (best : Option (Cell × Float)) → Found q best → Found q (leader q cs best)
-unfolding leader
-leader-found q [] best f = f
-leader-found q (c ∷ cs) best f = leader-found q cs (ahead best c (getD q c none)) (ahead-found q best c f)
-
--- a cell taken from the queue: one fewer waits
-taken : (q : Queue) (c : Cell) (p : Float) → getD q c none ≡ some p → waiting (set q c none) < waiting q
-taken [] c p h = absurd (let z : _≡_ {A = ℕ} 0 1 = cc in omega arith)
-taken (none ∷ q) zero p h = absurd (let z : _≡_ {A = ℕ} 0 1 = cc in omega arith)
-taken (some x ∷ q) zero p h = omega arith
-taken (none ∷ q) (suc c) p h = taken q c p h
-taken (some x ∷ q) (suc c) p h = let ih = taken q c p h in omega arith
-
-pub record Popped (q : Queue) (c : Cell) (r : Queue) : Type 0 where
-  pub priority : Float
-  pub there : getD q c none ≡ some priority
-  pub rest : r ≡ set q c none
-
-pub pop-some : (q : Queue) (c : Cell) (r : Queue) → pop q ≡ some (c, r) → Popped q c r
-unfolding pop
-pop-some q c r e = go (leader q (from 0 (length q)) none) (leader-found q (from 0 (length q)) none tt) e
-  where
-    go : (o : Option (Cell × Float)) → Found q o → _≡_ {A = Option (Cell × Queue)} (elim o [ none ↦ none | some e ↦ some (e .0, set q (e .0) none) ]) (some (c, r)) → Popped q c r
-    go none f h = absurd (let z : _≡_ {A = ℕ} 0 1 = cc in omega arith)
-    go (some e) f h =
-        let pair : _≡_ {A = Cell × Queue} (e .0, set q (e .0) none) (c, r) = cc in
-        let k : e .0 ≡ c = ap (λ x. x .0) pair in
-        record { priority = e .1; there = subst (λ i. getD q i none ≡ some (e .1)) k f; rest = sym (ap (λ x. x .1) pair) ∙ ap (λ i. set q i none) k }
-
-pub pop-long : (q : Queue) (c : Cell) (r : Queue) → Popped q c r → length r ≡ length q
-pop-long q c r p = ap length (p .rest) ∙ length-set q c none
-
-pub pop-fewer : (q : Queue) (c : Cell) (r : Queue) → Popped q c r → waiting r < waiting q
-pop-fewer q c r p = rw (p .rest) (taken q c (p .priority) (p .there))
-
-pub pushAll-long : (cs : List Cell) (p : Float) (q : Queue) → length (pushAll cs p q) ≡ length q
+pub pushAll-long : (cs : List Cell) (p : Float) (q : CellQueue) → length (pushAll cs p q) ≡ length q
 unfolding pushAll push
 pushAll-long [] p q = refl
 pushAll-long (c ∷ cs) p q = pushAll-long cs p (push c p q) ∙ length-set q c (some p)
@@ -109,12 +63,12 @@ assumedAll-quiet c (x ∷ xs) s = quiet-trans {t = event (assumed c x) s}
     (record { stored-same = refl; limit-same = refl; deepest-same = refl; steps-up = omega arith }) (assumedAll-quiet c xs (event (assumed c x) s))
 
 module _ (z : Puzzle) where
-  pub pushAround-long : (b : Board) (cs : List Cell) (p : Float) (q : Queue) → length (pushAround z b cs p q) ≡ length q
+  pub pushAround-long : (b : Board) (cs : List Cell) (p : Float) (q : CellQueue) → length (pushAround z b cs p q) ≡ length q
   unfolding pushAround
   pushAround-long b [] p q = refl
   pushAround-long b (c ∷ cs) p q = pushAround-long b cs p (pushAll (around z b c) p q) ∙ pushAll-long (around z b c) p q
 
-  pub pushBoth-long : (b : Board) (c : Cell) (new : List Cell) (q : Queue) → length (pushBoth z b c new q) ≡ length q
+  pub pushBoth-long : (b : Board) (c : Cell) (new : List Cell) (q : CellQueue) → length (pushBoth z b c new q) ≡ length q
   pushBoth-long b c new q = pushAround-long b (c ∷ []) (float 20) (pushAround z b new (float 10) q) ∙ pushAround-long b new (float 10) q
 
   assume-none : (b : Board) (c : Cell) (x : Colour) → assume z b c x ≡ none → propagate z (put b c x) c ≡ none
@@ -145,25 +99,22 @@ module _ (z : Puzzle) where
   Smaller : ℕ → Turn Probing Probed → Type 0
   Smaller m = Holds (λ t. probeMeasure t < m) (λ r. Unit {0})
 
-  round-smaller : (a : Board) (q : Queue) (s : Run) (m : ℕ) → size a * suc (length q) + waiting q < m → Smaller m (newRound a q s)
+  round-smaller : (a : Board) (q : CellQueue) (s : Run) (m : ℕ) → size a * suc (length q) + waiting q < m → Smaller m (newRound a q s)
   unfolding Smaller
   round-smaller a q s m h = on-test (Smaller m) (solved a) (λ _. tt) (λ _. h)
 
-  waiting-few : (q : Queue) → waiting q ≤ length q
-  waiting-few q = keep-few waits q
-
-  cut-smaller : (a b : Board) (c : Cell) (q r : Queue) (s : Run) → length r ≡ length q → size a < size b → (v : Option Board) → propagate z a c ≡ v →
-      Smaller (probeMeasure (probing b q [] s)) (cut z a c r s v)
+  cut-smaller : (a b : Board) (c : Cell) (q r : CellQueue) (ns : Notes) (s : Run) → length r ≡ length q → size a < size b → (v : Option Board) → propagate z a c ≡ v →
+      Smaller (probeMeasure (probing b q ns s)) (cut z a c r s v)
   unfolding Smaller
-  cut-smaller a b c q r s l h none e = tt
-  cut-smaller a b c q r s l h (some f) e =
+  cut-smaller a b c q r ns s l h none e = tt
+  cut-smaller a b c q r ns s l h (some f) e =
       let p = pushBoth z f c (newly a f) r in
       let lp : length p ≡ length q = pushBoth-long f c (newly a f) r ∙ l in
       let k : size f ≤ size a = sub-size f a (propagate-sub z f a c e) in
       round-smaller f p s (size b * suc (length q) + waiting q)
       (rw lp (heavier (size f) (size b) (suc (length q)) (waiting p) (waiting q) (omega arith) (omega (arith, waiting-few p))))
 
-  judge-smaller : (b : Board) (c : Cell) (q r : Queue) (ns : List Noted) (s : Run) (good : List (Colour × ℕ)) (xs : List Colour) → Popped q c r →
+  judge-smaller : (b : Board) (c : Cell) (q r : CellQueue) (ns : Notes) (s : Run) (good : List (Colour × ℕ)) (xs : List Colour) → Popped q c r →
       ((x : Colour) → In x xs → has (at b c) x ≡ true) → Smaller (probeMeasure (probing b q ns s)) (judge z b c r ns s good xs)
   unfolding Smaller
   judge-smaller b c q r ns s good [] p f = let l = pop-long q c r p in rw l (omega (arith, pop-fewer q c r p))
@@ -171,14 +122,14 @@ module _ (z : Puzzle) where
       let a = removeAll b c (x ∷ xs) in
       let k = f x (List·Memᴰ·head refl) in
       on-test (Smaller (probeMeasure (probing b q ns s))) (empty (at a c)) (λ _. tt)
-      (λ _. cut-smaller a b c q r s (pop-long q c r p) (removeAll-size b c x xs k) (propagate z a c) refl)
+      (λ _. cut-smaller a b c q r ns s (pop-long q c r p) (removeAll-size b c x xs k) (propagate z a c) refl)
 
   -- PROBING ENDS
   pub probe-falls : Falls (probeStep z) probeMeasure
   unfolding Smaller
-  probe-falls (probing b q ns s) = on-option (Smaller (probeMeasure (probing b q ns s))) (pop q) (λ _. tt)
+  probe-falls (probing b q ns s) = on-option (Smaller (probeMeasure (probing b q ns s))) (pop higher q) (λ _. tt)
       (λ e h. judge-smaller b (e .0) q (e .1) ns (assumedAll (e .0) (colours (at b (e .0))) s) (solving (outcomes z b (e .0))) (contradicting (outcomes z b (e .0)))
-      (pop-some q (e .0) (e .1) h) (λ x m. contradicts b (e .0) m .1))
+      (pop-some higher q (e .0) (e .1) h) (λ x m. contradicts b (e .0) m .1))
 
   -- the equation that determines it
   pub probe-turn : (t : Probing) → probeOn z t ≡ (elim (probeStep z t) as (λ _. Probed) [ more u ↦ probeOn z u | stop r ↦ r ])
@@ -198,16 +149,16 @@ module _ (z : Puzzle) where
     Below : Turn Probing Probed → Type 0
     Below = Holds ProbingBelow (ProbedBelow b₀ s₀)
 
-    round-below : (b : Board) (q : Queue) (s : Run) → b ⊑ b₀ → Quiet s₀ s → Below (newRound b q s)
+    round-below : (b : Board) (q : CellQueue) (s : Run) → b ⊑ b₀ → Quiet s₀ s → Below (newRound b q s)
     unfolding Below
     round-below b q s h k = on-test Below (solved b) (λ _. (h, k)) (λ _. (h, k))
 
-    cut-below : (b : Board) (c : Cell) (q : Queue) (s : Run) → b ⊑ b₀ → Quiet s₀ s → (v : Option Board) → propagate z b c ≡ v → Below (cut z b c q s v)
+    cut-below : (b : Board) (c : Cell) (q : CellQueue) (s : Run) → b ⊑ b₀ → Quiet s₀ s → (v : Option Board) → propagate z b c ≡ v → Below (cut z b c q s v)
     unfolding Below
     cut-below b c q s h k none e = k
     cut-below b c q s h k (some a) e = round-below a (pushBoth z a c (newly b a) q) s (⊑-trans (propagate-sub z a b c e) h) k
 
-    judge-below : (b : Board) (c : Cell) (q : Queue) (ns : List Noted) (s : Run) (good : List (Colour × ℕ)) (xs : List Colour) → b ⊑ b₀ → Quiet s₀ s → Below (judge z b c q ns s good xs)
+    judge-below : (b : Board) (c : Cell) (q : CellQueue) (ns : Notes) (s : Run) (good : List (Colour × ℕ)) (xs : List Colour) → b ⊑ b₀ → Quiet s₀ s → Below (judge z b c q ns s good xs)
     unfolding Below
     judge-below b c q ns s good [] h k = (h, k)
     judge-below b c q ns s good (x ∷ xs) h k =
@@ -216,11 +167,11 @@ module _ (z : Puzzle) where
 
     step-below : (t : Probing) → ProbingBelow t → Below (probeStep z t)
     unfolding Below
-    step-below (probing b q ns s) h = on-option Below (pop q) (λ _. h)
+    step-below (probing b q ns s) h = on-option Below (pop higher q) (λ _. h)
         (λ e _. judge-below b (e .0) (e .1) ns (assumedAll (e .0) (colours (at b (e .0))) s) (solving (outcomes z b (e .0))) (contradicting (outcomes z b (e .0)))
         (h .0) (quiet-trans (h .1) (assumedAll-quiet (e .0) (colours (at b (e .0))) s)))
 
-  pub probe-below : (b : Board) (q : Queue) (s : Run) → ProbedBelow b s (probe z b q s)
+  pub probe-below : (b : Board) (q : CellQueue) (s : Run) → ProbedBelow b s (probe z b q s)
   unfolding probe probeOn Below
   probe-below b q s = go (newRound b q s) (round-below b s b q s (⊑-refl b) (quiet-refl s))
     where

@@ -7,6 +7,7 @@ pub mod Lines
 pub mod Boards
 pub mod Propagation
 pub mod Floats
+pub mod Queues
 pub mod Probing
 pub mod Guesses
 pub mod Search

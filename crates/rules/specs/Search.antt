@@ -10,7 +10,7 @@ use Rattle.rules.specs.Loops.{Turn, more, stop, run}
 use Rattle.rules.specs.Sets.{Colour, has, colours, single, empty}
 use Rattle.rules.specs.Boards.{Board, Cell, at, cells, put, remove, solved, size, newly, same, Puzzle}
 use Rattle.rules.specs.Propagation.{propagate, check}
-use Rattle.rules.specs.Probing.{Event, guessed, Run, steps, event, Queue, startQueue, pushBoth, Noted, Probed, contradiction, probed, probe}
+use Rattle.rules.specs.Probing.{Event, guessed, Run, steps, event, CellQueue, startQueue, pushBoth, Notes, Probed, contradiction, probed, probe}
 use Rattle.rules.specs.Guesses.{Guess, guess, choose}
 
 pub record Limits : Type 0 where
@@ -214,7 +214,7 @@ module _ (z : Puzzle) (l : Limits) where
   -- ## A guess, at its own depth d, over the search one deeper
   module _ (deep : Board → List Guess → Run → Left) (d : ℕ) where
     -- after the probing inside the guess: limits are asked again; if the board is solved, done; else search one deeper with the chosen guesses
-    abbrev pub guessDeeper : Board → List Noted → Run → Tried
+    abbrev pub guessDeeper : Board → Notes → Run → Tried
     guessDeeper b ns s = elim (met s d) [
       | suc m ↦ tried notDead (note (suc m) s)
       | zero ↦ elim (solved b) [ true ↦ tried notDead s | false ↦ ended (deep b (choose b ns) s) ]
@@ -229,14 +229,14 @@ module _ (z : Puzzle) (l : Limits) where
     ]
 
     -- limits at the guess's own depth, then probing
-    abbrev pub guessAsk : Board → Queue → Run → Tried
+    abbrev pub guessAsk : Board → CellQueue → Run → Tried
     guessAsk b q s = elim (met s d) [
       | suc m ↦ tried notDead (note (suc m) s)
       | zero ↦ guessProbed (probe z b q s)
     ]
 
     -- the colour is set, on board a, and propagated: if solved, store, M1 its final check passed; push the two kinds of neighbours
-    abbrev pub guessSet : Board → Cell → Queue → Run → Option Board → Tried
+    abbrev pub guessSet : Board → Cell → CellQueue → Run → Option Board → Tried
     guessSet a c q s none = tried dead s
     guessSet a c q s (some b) = let r = pushBoth z b c (newly a b) q in elim (solved b) [
       | true ↦ elim (check z b) [ true ↦ guessAsk b r (store b s) | false ↦ tried dead s ]

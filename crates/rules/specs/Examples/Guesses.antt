@@ -1,25 +1,27 @@
 -- Choosing guesses, worked.
 use mathlib.Core.Path.{_≡_, refl}
 use mathlib.Core.List.{List, [], _∷_}
+use mathlib.Core.Option.{Option, none, some}
 use Prim.Native.Nat.{ℕ}
 use Rattle.rules.specs.Boards.{Board}
-use Rattle.rules.specs.Probing.{Noted, noted}
+use Rattle.rules.specs.Probing.{Notes}
 use Rattle.rules.specs.Guesses.{Guess, guess, choose}
 use Rattle.rules.specs.Examples.Computed.{computed}
 
--- cells 3 and 1 tie by (4, 0), which is 2.0: cell 1 first. Cell 2 has (9, 3), which is 4.5: before both. Cell 0 is solved: skipped, whatever it solves.
+-- cells 1 and 3 tie by (4, 0), which is 2.0: cell 1 first. Cell 2 has (9, 3), which is 4.5: before both. Cell 0 is solved: skipped, whatever it solves. Cell 4 was not popped.
 -- In cell 2 the colour that solves most comes first; in cell 1 colours 0 and 2 tie: ascending.
-chosen : choose (2 ∷ 7 ∷ 7 ∷ 7 ∷ [])
-    (noted 3 ((0, 4) ∷ (1, 0) ∷ [])
-    ∷ noted 0 ((1, 50) ∷ [])
-    ∷ noted 1 ((0, 0) ∷ (1, 4) ∷ (2, 0) ∷ [])
-    ∷ noted 2 ((0, 3) ∷ (1, 5) ∷ (2, 9) ∷ [])
+chosen : choose (2 ∷ 7 ∷ 7 ∷ 7 ∷ 7 ∷ [])
+    (some ((1, 50) ∷ [])
+    ∷ some ((0, 0) ∷ (1, 4) ∷ (2, 0) ∷ [])
+    ∷ some ((0, 3) ∷ (1, 5) ∷ (2, 9) ∷ [])
+    ∷ some ((0, 4) ∷ (1, 0) ∷ [])
+    ∷ none
     ∷ [])
     ≡ guess 2 2 ∷ guess 2 1 ∷ guess 2 0 ∷ guess 1 1 ∷ guess 1 0 ∷ guess 1 2 ∷ guess 3 0 ∷ guess 3 1 ∷ []
 unfolding computed
 chosen = refl
 
 -- no notes, no guesses
-none-chosen : choose (3 ∷ 3 ∷ []) [] ≡ []
+none-chosen : choose (3 ∷ 3 ∷ []) (none ∷ none ∷ []) ≡ []
 unfolding computed
 none-chosen = refl

@@ -6,32 +6,34 @@ use Prim.Native.Nat.{ℕ}
 use Rattle.rules.specs.Sets.{Colour}
 use Rattle.rules.specs.Clues.{Block, Clue}
 use Rattle.rules.specs.Boards.{Board, Puzzle}
-use Rattle.rules.specs.Floats.{float}
-use Rattle.rules.specs.Probing.{Queue, push, pop, Noted, noted, Probed, contradiction, probed, startQueue, probe, steps}
+use Rattle.rules.specs.Queues.{Queue, push, pop}
+use Rattle.rules.specs.Floats.{float, higher}
+use lib.Ieee.{Float}
+use Rattle.rules.specs.Probing.{Notes, Probed, contradiction, probed, startQueue, probe, steps}
 use Rattle.rules.specs.Search.{fresh}
 use Rattle.rules.specs.Examples.Computed.{computed}
 
 -- ## The queue
 
-abbrev queue : Queue
+abbrev queue : Queue Float
 queue = some (float 2) ∷ some (float 3) ∷ none ∷ some (float 3) ∷ []
 
 -- a tie between cells 1 and 3: the lower goes first
-tie : pop queue ≡ some (1, some (float 2) ∷ none ∷ none ∷ some (float 3) ∷ [])
+tie : pop higher queue ≡ some (1, some (float 2) ∷ none ∷ none ∷ some (float 3) ∷ [])
 unfolding computed
 tie = refl
 
 -- a push replaces, upwards and downwards
-replaced : pop (push 0 (float 10) queue) ≡ some (0, none ∷ some (float 3) ∷ none ∷ some (float 3) ∷ [])
+replaced : pop higher (push 0 (float 10) queue) ≡ some (0, none ∷ some (float 3) ∷ none ∷ some (float 3) ∷ [])
 unfolding computed
 replaced = refl
 
-lowered : pop (push 1 (float 1) queue) ≡ some (3, some (float 2) ∷ some (float 1) ∷ none ∷ none ∷ [])
+lowered : pop higher (push 1 (float 1) queue) ≡ some (3, some (float 2) ∷ some (float 1) ∷ none ∷ none ∷ [])
 unfolding computed
 lowered = refl
 
 -- nothing waits
-none-waits : pop (none ∷ none ∷ []) ≡ none
+none-waits : pop {A = Float} higher (none ∷ none ∷ []) ≡ none
 unfolding computed
 none-waits = refl
 
@@ -51,7 +53,7 @@ opened = 3 ∷ 3 ∷ 3 ∷ 3 ∷ 3 ∷ 3 ∷ []
 
 -- the board, the notes and the number of steps
 data Shown : Type 0 where
-  shown : Board → List Noted → ℕ → Shown
+  shown : Board → Notes → ℕ → Shown
   nothing : Shown
 
 abbrev show : Probed → Shown
@@ -60,16 +62,18 @@ show (probed b ns s) = shown b ns (steps s)
 
 cut-round : show (probe puzzle opened (startQueue puzzle opened) fresh) ≡
     shown (3 ∷ 3 ∷ 1 ∷ 3 ∷ 3 ∷ 1 ∷ [])
-    (noted 1 ((0, 3) ∷ (1, 3) ∷ [])
-    ∷ noted 4 ((0, 3) ∷ (1, 3) ∷ [])
-    ∷ noted 3 ((0, 3) ∷ (1, 3) ∷ [])
-    ∷ noted 5 ((0, 0) ∷ [])
+    (none
+    ∷ some ((0, 3) ∷ (1, 3) ∷ [])
+    ∷ none
+    ∷ some ((0, 3) ∷ (1, 3) ∷ [])
+    ∷ some ((0, 3) ∷ (1, 3) ∷ [])
+    ∷ some ((0, 0) ∷ [])
     ∷ [])
     11
 unfolding computed
 cut-round = refl
 
--- with no block in the first row either the last colour goes: a contradiction
+-- a cell whose row has a block and whose column has none loses its last colour: a contradiction
 contradicts : show (probe (record { width = 1; height = 1; clues = one ∷ [] ∷ [] }) (3 ∷ []) (startQueue puzzle (3 ∷ [])) fresh) ≡ nothing
 unfolding computed
 contradicts = refl
