@@ -1,14 +1,15 @@
 -- Laws of `keep`, `every`, `any`, `first`, `from` and `sum`, and of membership.
-use mathlib.Core.Path.{_≡_, refl, sym, ap, ap₂, _∙_}
+use mathlib.Core.Path.{_≡_, refl, sym, ap, ap₂, subst, _∙_}
 use mathlib.Core.Logic.{_⊎_, inl, inr, _≢_}
 use mathlib.Core.Bool.{Bool, true, false, not, _&&_, _||_, true≢false, false≢true}
 use mathlib.Core.List.{List, [], _∷_, _++_, map, List·Memᴰ, List·Memᴰ·head, List·Memᴰ·tail, List·Memᴰ·cases-cons, List·Memᴰ·not-nil}
 use mathlib.Core.Option.{Option, none, some}
-use Prim.Native.Nat.{ℕ, zero, suc, _+_, _*_, _≤_, _<_}
+use Prim.Native.Nat.{ℕ, zero, suc, _+_, _-_, _*_, _≤_, _<_}
+use native.Mathlib.Numerals.{add-one}
 use native.Mathlib.Omega.{arith}
 use lib.ListN.{length, getD, set}
 use lib.Dec.{eqb}
-use Rattle.rules.specs.Lists.{keep, every, any, first, from, sum}
+use Rattle.rules.specs.Lists.{keep, every, any, first, from, sum, digit}
 use Rattle.rules.proofs.Tests.{on-test, by-test, by-equal, clash, and-true, true-and, or-true}
 
 -- a is in l
@@ -132,6 +133,19 @@ in-from i (suc n) c h k = by-equal c i (λ e. List·Memᴰ·head e) (λ e. List�
 
 pub below : (n c : ℕ) → c < n → In c (from 0 n)
 below n c h = in-from 0 n c (omega arith) (omega arith)
+
+-- a list given number by number
+pub getD-given : {A : Type 0} (f : ℕ → A) (i n k : ℕ) (d : A) → k < n → getD (map f (from i n)) k d ≡ f (i + k)
+getD-given f i zero k d h = absurd (omega arith)
+getD-given f i (suc n) zero d h = ap f (omega arith)
+getD-given f i (suc n) (suc k) d h = getD-given f (suc i) n k d (omega arith) ∙ ap f (omega arith)
+
+-- what a counting loop has still to keep, at a turn: the next number, and those after it
+pub keep-turn : (p : ℕ → Bool) (i n : ℕ) → i < n → length (keep p (from i (n - i))) ≡ digit (p i) + length (keep p (from (i + 1) (n - (i + 1))))
+keep-turn p i n h = subst (λ j. length (keep p (from i (n - i))) ≡ digit (p i) + length (keep p (from j (n - j)))) (sym (add-one i)) turn
+  where
+    turn : length (keep p (from i (n - i))) ≡ digit (p i) + length (keep p (from (suc i) (n - suc i)))
+    turn = let z : n - i ≡ suc (n - suc i) = omega arith in rw z (by-test (p i) (λ e. rw e (omega arith)) (λ e. rw e (omega arith)))
 
 pub getD-in : {A : Type 0} (l : List A) (i : ℕ) (d : A) → i < length l → In (getD l i d) l
 getD-in [] i d h = absurd (omega arith)

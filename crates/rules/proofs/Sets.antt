@@ -11,7 +11,7 @@ use lib.Pow.{shr-shr, pow-pos, pow-mono, pow-lt}
 use lib.ListN.{length}
 use lib.Dec.{eqb, leb, ltb, eqb·suc-zero, eqb·zero-suc, eqb·suc-suc}
 use borrow.Author.Tests.{eqb-true, eqb-false, eq-eqb, ne-eqb, le-leb, leb-true, lt-ltb, ltb-true, ltb-false, not-true}
-use Rattle.rules.specs.Lists.{keep, any, from, sum}
+use Rattle.rules.specs.Lists.{keep, any, from, sum, digit}
 use Rattle.rules.specs.Sets.{Colour, bit, _∋_, has, members, setOf, palette, colours, single, empty, only, without, lost, proper}
 use Rattle.rules.proofs.Tests.{on-test, by-test, by-equal, clash, and-true, true-and, same-test}
 use Rattle.rules.proofs.Lists.{In, keep-in, in-keep, keep-same, keep-few, any-out, any-in, length-from, from-low, below}
@@ -69,27 +69,21 @@ has-high s n c h k = ne-eqb (bit s c) 1 (λ e. let z = bit-high s n c h k in ome
 
 -- ## The set of what passes a test
 
--- its digits, lowest first
-digit : Bool → ℕ
-digit true = 1
-digit false = 0
-
-weigh : (ℕ → Bool) → ℕ → ℕ → ℕ
+-- its digits, the lowest first: n of them from that of i on
+unfoldable pub weigh : (ℕ → Bool) → ℕ → ℕ → ℕ
 weigh p i zero = 0
 weigh p i (suc n) = digit (p i) + 2 * weigh p (suc i) n
 
-digit-low : (v : Bool) → digit v < 2
-unfolding digit
+pub digit-low : (v : Bool) → digit v < 2
 digit-low true = omega arith
 digit-low false = omega arith
 
 digit-bit : (v : Bool) → eqb (digit v) 1 ≡ v
-unfolding digit
 digit-bit true = refl
 digit-bit false = refl
 
 powers : (p : ℕ → Bool) (i n : ℕ) → sum (map (λ c. 2 ^ c) (keep p (from i n))) ≡ 2 ^ i * weigh p i n
-unfolding weigh digit
+unfolding weigh
 powers p i zero = omega arith
 powers p i (suc n) = go (p i) (powers p (suc i) n)
   where
@@ -101,7 +95,7 @@ powers p i (suc n) = go (p i) (powers p (suc i) n)
     go true ih = omega (arith, ih, shift, mul-add (2 ^ i) 1 (2 * weigh p (suc i) n))
     go false ih = omega (arith, ih, shift, mul-add (2 ^ i) 0 (2 * weigh p (suc i) n))
 
-setOf-weigh : (n : ℕ) (p : ℕ → Bool) → setOf n p ≡ weigh p 0 n
+pub setOf-weigh : (n : ℕ) (p : ℕ → Bool) → setOf n p ≡ weigh p 0 n
 unfolding setOf
 setOf-weigh n p = omega (arith, powers p 0 n)
 
@@ -112,7 +106,7 @@ bit-weigh p i (suc n) zero h = bit-low (weigh p (suc i) n) (digit (p i)) (digit-
 bit-weigh p i (suc n) (suc c) h =
     bit-up (weigh p (suc i) n) (digit (p i)) c (digit-low (p i)) ∙ bit-weigh p (suc i) n c (omega arith) ∙ ap (λ j. digit (p j)) (omega arith)
 
-weigh-low : (p : ℕ → Bool) (i n : ℕ) → weigh p i n < 2 ^ n
+pub weigh-low : (p : ℕ → Bool) (i n : ℕ) → weigh p i n < 2 ^ n
 unfolding weigh
 weigh-low p i zero = omega arith
 weigh-low p i (suc n) = omega (arith, weigh-low p (suc i) n, digit-low (p i), pow-suc 2 n)

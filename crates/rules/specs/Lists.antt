@@ -30,6 +30,11 @@ module _ {A : Type 0} where
   joined [] = []
   joined (l ∷ ls) = l ++ joined ls
 
+-- 1 for a test that passes, and 0 for one that fails
+abbrev pub digit : Bool → ℕ
+digit true = 1
+digit false = 0
+
 abbrev pub sum : List ℕ → ℕ
 sum [] = 0
 sum (x ∷ xs) = x + sum xs

@@ -1,0 +1,100 @@
+-- The places of a line's cells, one by one, and the sets that are written there.
+use mathlib.Core.Path.{_≡_, refl, sym, ap, subst, _∙_}
+use mathlib.Core.List.{List, [], _∷_, map}
+use Prim.Native.Nat.{ℕ, zero, suc, _+_, _-_, _*_, _≤_, _<_}
+use native.Mathlib.Nat.{mul-le-mul}
+use native.Mathlib.Numerals.{add-one}
+use native.Mathlib.Omega.{arith}
+use lib.ListN.{length, getD, set, take, drop, replicate, length-map, length-set}
+use lib.Seq.{drop-cons, getD-take, getD-set-same, getD-set-other, ext-getD, length-take-le}
+use borrow.Author.Tests.{lt-ltb, le-ltb}
+use Rattle.rules.specs.Lists.{from}
+use Rattle.rules.specs.Propagation.{write}
+use Rattle.rules.proofs.Tests.{by-equal}
+use Rattle.rules.proofs.Lists.{length-from}
+use Rattle.boards.specs.declared.line.Line.{Line}
+use Rattle.boards.specs.Line.{lineAt, places, Reaches}
+
+-- rows and columns
+pub line-row : (w h i : ℕ) → i < h → lineAt w h i ≡ record { start = i * w; stride = 1; len = w }
+unfolding lineAt
+line-row w h i l = rw (lt-ltb i h l, lineAt)
+
+pub line-column : (w h i : ℕ) → h ≤ i → lineAt w h i ≡ record { start = i - h; stride = w; len = h }
+unfolding lineAt
+line-column w h i l = rw (le-ltb i h l, lineAt)
+
+-- a place is small
+pub small : {l : Line} {n : ℕ} → Reaches l n → (j : ℕ) → j < l .len → j * l .stride ≤ 256
+small {l} r j h = let q : j ≤ 16 = (let z = r .few in omega arith) in mul-le-mul q (r .close)
+
+pub length-places : (l : Line) → length (places l) ≡ l .len
+length-places l = length-map (from 0 (l .len)) (λ j. l .start + j * l .stride) ∙ length-from 0 (l .len)
+
+-- a function at the places
+pub map-places : (f : ℕ → ℕ) (start stride n i k : ℕ) → k < n → getD (map f (map (λ j. start + j * stride) (from i n))) k 0 ≡ f (start + (i + k) * stride)
+map-places f start stride zero i k h = absurd (omega arith)
+map-places f start stride (suc n) i zero h = ap (λ j. f (start + j * stride)) (omega arith)
+map-places f start stride (suc n) i (suc k) h = map-places f start stride n (suc i) k (omega arith) ∙ ap (λ j. f (start + j * stride)) (omega arith)
+
+-- the sets of the cells before j are gathered
+pub record Gathered (cells : List ℕ) (start stride len : ℕ) (sets : List ℕ) (j : ℕ) : Type 0 where
+  pub each : (k : ℕ) → k < j → getD sets k 0 ≡ getD cells (start + k * stride) 0
+  pub upto : j ≤ len
+  pub long : length sets ≡ 16
+
+pub gathered-start : (cells : List ℕ) (start stride len : ℕ) → Gathered cells start stride len (replicate 16 0) 0
+gathered-start cells start stride len = record { each = λ k h. absurd (omega arith); upto = omega arith; long = refl }
+
+pub gathered-turn : (cells : List ℕ) (start stride len : ℕ) (sets : List ℕ) (j : ℕ) → Gathered cells start stride len sets j → j < len → len ≤ 16 →
+    Gathered cells start stride len (set sets j (getD cells (start + j * stride) 0)) (j + 1)
+gathered-turn cells start stride len sets j g h s = record {
+  each = λ k l. by-equal k j
+      (λ e. ap (λ i. getD (set sets j v) i 0) e ∙ getD-set-same sets j v 0 (let z = g .long in omega arith) ∙ ap (λ i. getD cells (start + i * stride) 0) (sym e))
+      (λ e. getD-set-other sets j k v 0 e ∙ g .each k (omega arith));
+  upto = omega arith;
+  long = length-set sets j v ∙ g .long;
+}
+  where
+    v : ℕ
+    v = getD cells (start + j * stride) 0
+
+pub gathered-end : (cells sets : List ℕ) (l : Line) (j : ℕ) → Gathered cells (l .start) (l .stride) (l .len) sets j → l .len ≤ j → l .len ≤ 16 → take (l .len) sets ≡ map (λ c. getD cells c 0) (places l)
+gathered-end cells sets l j g h s = ext-getD 0 (take (l .len) sets) (map (λ c. getD cells c 0) (places l))
+    (short ∙ sym (length-map (places l) (λ c. getD cells c 0) ∙ length-places l))
+    (λ k q. let i : k < l .len = subst (λ n. k < n) short q in
+    getD-take (l .len) sets k 0 i ∙ g .each k (omega arith) ∙ ap (λ j. getD cells (l .start + j * l .stride) 0) (omega arith) ∙ sym (map-places (λ c. getD cells c 0) (l .start) (l .stride) (l .len) 0 k i))
+  where
+    short : length (take (l .len) sets) ≡ l .len
+    short = length-take-le (l .len) sets (let z = g .long in omega arith)
+
+-- writing the sets from j on is all that is left to do
+pub record Writing (before sets : List ℕ) (start stride len : ℕ) (cells : List ℕ) (j : ℕ) : Type 0 where
+  pub all : write before (map (λ k. start + k * stride) (from 0 len)) (take len sets) ≡ write cells (map (λ k. start + k * stride) (from j (len - j))) (drop j (take len sets))
+  pub upto : j ≤ len
+  pub long : length cells ≡ length before
+
+pub writing-start : (before sets : List ℕ) (start stride len : ℕ) → Writing before sets start stride len before 0
+writing-start before sets start stride len = let z : len ≡ len - 0 = omega arith in
+    record { all = ap (λ n. write before (map (λ k. start + k * stride) (from 0 n)) (take len sets)) z; upto = omega arith; long = refl }
+
+pub writing-turn : (before sets : List ℕ) (start stride len : ℕ) (cells : List ℕ) (j : ℕ) → Writing before sets start stride len cells j → j < len → len ≤ length sets →
+    Writing before sets start stride len (set cells (start + j * stride) (getD sets j 0)) (j + 1)
+unfolding write
+writing-turn before sets start stride len cells j w h k =
+    let deep : j < length (take len sets) = subst (λ n. j < n) (sym (length-take-le len sets k)) h in
+    let z : len - j ≡ suc (len - suc j) = omega arith in
+    let next : write cells (map (λ k. start + k * stride) (from j (len - j))) (drop j (take len sets)) ≡
+    write (set cells (start + j * stride) (getD sets j 0)) (map (λ k. start + k * stride) (from (suc j) (len - suc j))) (drop (suc j) (take len sets)) =
+    rw (z, drop-cons (take len sets) j 0 deep, getD-take len sets j 0 h) in
+    record {
+      all = w .all ∙ subst (λ i. write cells (map (λ k. start + k * stride) (from j (len - j))) (drop j (take len sets)) ≡
+          write (set cells (start + j * stride) (getD sets j 0)) (map (λ k. start + k * stride) (from i (len - i))) (drop i (take len sets))) (sym (add-one j)) next;
+      upto = omega arith;
+      long = length-set cells (start + j * stride) (getD sets j 0) ∙ w .long;
+    }
+
+pub writing-end : (before sets : List ℕ) (l : Line) (cells : List ℕ) (j : ℕ) → Writing before sets (l .start) (l .stride) (l .len) cells j → l .len ≤ j →
+    cells ≡ write before (places l) (take (l .len) sets)
+unfolding write
+writing-end before sets l cells j w h = let z : l .len - j ≡ 0 = omega arith in sym (w .all ∙ rw z)

@@ -1,0 +1,16 @@
+-- By the two cases of the test.
+use mathlib.Core.Path.{_≡_, refl, sym, ap, _∙_}
+use mathlib.Core.Bool.{not}
+use borrow.Author.Tests.{eq-eqb, ne-eqb}
+use Rattle.rules.specs.Lists.{digit}
+use Rattle.boards.proofs.line.differ_at.Statement.{statement}
+use Rattle.boards.proofs.line.differ_at.Tie as tie
+
+returns : tie.Need-returns
+returns c = rw (eq-eqb _ _ (c .if1 .taken))
+
+returns-2 : tie.Need-returns-2
+returns-2 c = rw (ne-eqb _ _ (c .if1 .left))
+
+pub differ-at-spec : {M : Type 1} → statement M
+differ-at-spec = tie.close (tie.spec returns returns-2)

@@ -1,0 +1,3 @@
+-- What the contracts of this crate name: the board by value, its lines, and the table of machines.
+pub mod Board
+pub mod Line
