@@ -3,6 +3,13 @@ pub mod Tests
 pub mod Lists
 pub mod Loops
 pub mod Sets
+pub mod Squares
+pub mod Plain
+pub mod Rounding
+pub mod Farther
+pub mod Roots
+pub mod Rates
+pub mod Floats
 pub mod Clues
 pub mod Lines
 pub mod Narrowing

@@ -6,6 +6,7 @@ pub mod Clues
 pub mod Lines
 pub mod Propagation
 pub mod Floats
+pub mod Roots
 pub mod Probing
 pub mod Guesses
 pub mod Answers

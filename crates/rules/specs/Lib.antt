@@ -7,6 +7,7 @@ pub mod Lines
 pub mod Boards
 pub mod Propagation
 pub mod Floats
+pub mod Roots
 pub mod Queues
 pub mod Probing
 pub mod Guesses

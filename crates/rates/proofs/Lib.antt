@@ -1,0 +1,4 @@
+-- Laws behind the proofs of the functions.
+pub mod Turns
+pub mod Scaled
+pub mod Answers

@@ -1,0 +1,3 @@
+-- What the contracts of this crate cite besides the rules.
+pub mod Answered
+pub mod Digits
