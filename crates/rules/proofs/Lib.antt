@@ -1,6 +1,7 @@
 -- Laws of the definitions, for the proofs of the crates above.
 pub mod Tests
 pub mod Lists
+pub mod Given
 pub mod Loops
 pub mod Sets
 pub mod Squares

@@ -1,15 +1,20 @@
--- The queue: what is popped waited, one fewer waits then, and nothing is lost.
+-- The queue: how the one that goes first is found, that it waited, that one fewer waits then, and nothing is lost.
 use mathlib.Core.Path.{_≡_, refl, sym, ap, subst, _∙_}
 use mathlib.Core.Bool.{Bool, true, false}
-use mathlib.Core.List.{List, [], _∷_}
+use mathlib.Core.Logic.{_≢_}
+use mathlib.Core.List.{List, [], _∷_, map}
 use mathlib.Core.Option.{Option, none, some}
-use Prim.Native.Nat.{ℕ, zero, suc, _+_, _≤_, _<_}
+use Prim.Native.Nat.{ℕ, zero, suc, _+_, _-_, _≤_, _<_}
+use native.Mathlib.Numerals.{add-one}
 use native.Mathlib.Omega.{arith}
-use lib.ListN.{length, getD, set, length-set}
+use lib.ListN.{length, getD, set, length-set, replicate, List·getD-eq-default}
+use lib.Dec.{ltb}
+use borrow.Author.Tests.{lt-ltb, le-ltb, ltb-true, ltb-false}
 use Rattle.rules.specs.Lists.{keep, from}
 use Rattle.rules.specs.Queues.{Queue, push, waits, waiting, ahead, leader, pop, popped, inOrder}
-use Rattle.rules.proofs.Tests.{on-test, on-option}
+use Rattle.rules.proofs.Tests.{on-test, on-option, by-test, by-equal}
 use Rattle.rules.proofs.Lists.{keep-few}
+use Rattle.rules.proofs.Given.{given-alike, given-same, given-set}
 
 module _ {A : Type 0} where
   -- the number found waits with what was found
@@ -39,10 +44,79 @@ module _ {A : Type 0} where
   pub pop-long : (q : Queue A) (c : ℕ) (r : Queue A) → Popped q c r → length r ≡ length q
   pop-long q c r p = ap length (p .rest) ∙ length-set q c none
 
+  -- past the queue's end nothing waits
+  pub pop-low : (q : Queue A) (c : ℕ) (r : Queue A) → Popped q c r → c < length q
+  pop-low q c r p = by-test (ltb c (length q)) (λ e. ltb-true c (length q) e)
+      (λ e. let n = sym (List·getD-eq-default q none (ltb-false c (length q) e)) ∙ p .there in absurd (let z : _≡_ {A = ℕ} 0 1 = cc in omega arith))
+
   pub pop-fewer : (q : Queue A) (c : ℕ) (r : Queue A) → Popped q c r → waiting r < waiting q
   pop-fewer q c r p = rw (p .rest) (taken q c (p .with) (p .there))
 
+-- A queue filled number by number: below i each number waits with what f gives, and from i on none waits yet.
+module _ {A : Type 0} (f : ℕ → Option A) where
+  abbrev upTo : ℕ → ℕ → Option A
+  upTo i c = elim (ltb c i) [ true ↦ f c | false ↦ none ]
+
+  unfoldable pub filled : ℕ → ℕ → Queue A
+  filled n i = map (upTo i) (from 0 n)
+
+  passed : (i c : ℕ) → c < i → upTo i c ≡ f c
+  passed i c h = rw (lt-ltb c i h, upTo)
+
+  to-come : (i c : ℕ) → i ≤ c → upTo i c ≡ none
+  to-come i c h = rw (le-ltb c i h, upTo)
+
+  other : (i c : ℕ) → c ≢ i → upTo (i + 1) c ≡ upTo i c
+  other i c e = by-test (ltb c i)
+      (λ h. let l = ltb-true c i h in passed (i + 1) c (omega arith) ∙ sym (passed i c l))
+      (λ h. let l = ltb-false c i h in to-come (i + 1) c (omega arith) ∙ sym (to-come i c l))
+
+  pub filled-none : (n : ℕ) → filled n 0 ≡ replicate n none
+  unfolding filled
+  filled-none n = given-alike (upTo 0) none 0 n (λ c h. to-come 0 c (omega arith))
+
+  pub filled-all : (n i : ℕ) → n ≤ i → filled n i ≡ map f (from 0 n)
+  unfolding filled
+  filled-all n i k = given-same (upTo i) f n (λ c h. passed i c (omega arith))
+
+  -- a number that waits is pushed, and one that does not is passed over
+  pub filled-push : (n i : ℕ) (p : A) → f i ≡ some p → filled n (i + 1) ≡ push i p (filled n i)
+  unfolding filled push
+  filled-push n i p e = given-set (upTo i) (upTo (i + 1)) n i (some p) (λ h. passed (i + 1) i (omega arith) ∙ e) (λ c h k. other i c k)
+
+  pub filled-pass : (n i : ℕ) → f i ≡ none → filled n (i + 1) ≡ filled n i
+  unfolding filled
+  filled-pass n i e = given-same (upTo (i + 1)) (upTo i) n (λ c h. by-equal c i
+      (λ k. passed (i + 1) c (omega arith) ∙ ap f k ∙ e ∙ sym (to-come i c (omega arith)))
+      (λ k. other i c k))
+
 module _ {A : Type 0} (higher : A → A → Bool) where
+  -- a later number goes first only where it is higher
+  pub ahead-higher : (e : ℕ × A) (c : ℕ) (p : A) → higher p (e .1) ≡ true → ahead higher (some e) c (some p) ≡ some (c, p)
+  ahead-higher e c p h = rw (h, ahead)
+
+  pub ahead-lower : (e : ℕ × A) (c : ℕ) (p : A) → higher p (e .1) ≡ false → ahead higher (some e) c (some p) ≡ some e
+  ahead-lower e c p h = rw (h, ahead)
+
+  -- the leader of the numbers from i on, below n
+  pub leader-more : (q : Queue A) (n i : ℕ) (best : Option (ℕ × A)) → i < n →
+      leader higher q (from i (n - i)) best ≡ leader higher q (from (i + 1) (n - (i + 1))) (ahead higher best i (getD q i none))
+  unfolding leader
+  leader-more q n i best h = let z : n - i ≡ suc (n - (i + 1)) = omega arith in rw (z, leader, add-one i)
+
+  pub leader-end : (q : Queue A) (n i : ℕ) (best : Option (ℕ × A)) → n ≤ i → leader higher q (from i (n - i)) best ≡ best
+  unfolding leader
+  leader-end q n i best h = let z : n - i ≡ 0 = omega arith in rw z
+
+  -- and of all is popped
+  pub pop-leader : (q : Queue A) (c : ℕ) (p : A) → leader higher q (from 0 (length q)) none ≡ some (c, p) → pop higher q ≡ some (c, set q c none)
+  unfolding pop
+  pop-leader q c p e = ap (λ o. elim o as (λ _. Option (ℕ × Queue A)) [ none ↦ none | some f ↦ some (f .0, set q (f .0) none) ]) e
+
+  pub pop-nothing : (q : Queue A) → leader higher q (from 0 (length q)) none ≡ none → pop higher q ≡ none
+  unfolding pop
+  pop-nothing q e = ap (λ o. elim o as (λ _. Option (ℕ × Queue A)) [ none ↦ none | some f ↦ some (f .0, set q (f .0) none) ]) e
+
   ahead-found : (q : Queue A) (best : Option (ℕ × A)) (c : ℕ) → Found q best → Found q (ahead higher best c (getD q c none))
   ahead-found q best c f = go best f (getD q c none) refl
     where

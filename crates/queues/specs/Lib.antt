@@ -1,0 +1,2 @@
+-- What the contracts of this crate name beyond the rules.
+pub mod Entries
