@@ -1,9 +1,11 @@
 -- Laws of the definitions, for the proofs of the crates above.
 pub mod Tests
 pub mod Lists
+pub mod Distinct
 pub mod Given
 pub mod Loops
 pub mod Sets
+pub mod Boards
 pub mod Squares
 pub mod Plain
 pub mod Rounding
@@ -18,3 +20,17 @@ pub mod Propagation
 pub mod Queues
 pub mod Probing
 pub mod Ends
+pub mod InOrder
+pub mod Fitting
+pub mod Keeping
+pub mod Noting
+pub mod Steps
+pub mod Room
+pub mod Runs
+pub mod Settling
+pub mod Nodes
+pub mod Trying
+pub mod Searching
+pub mod Accepting
+pub mod Promises
+pub mod Order

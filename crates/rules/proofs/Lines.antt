@@ -17,7 +17,7 @@ use Rattle.rules.specs.Clues.{Clue}
 use Rattle.rules.specs.Lines.{cellsOf, between, Meets, nothing, blank, block, From, end, cell, Arranged, Possible, Reduced, Reduces, begins, later, isEnd, fits, keptAt, reduce}
 use Rattle.rules.proofs.Tests.{on-test, by-test, clash, and-true, true-and, same-test}
 use Rattle.rules.proofs.Lists.{length-from}
-use Rattle.rules.proofs.Sets.{has-in, in-has, has-none, setOf-low, has-setOf, setOf-has, same-set, only-self, only-one, byte-colour}
+use Rattle.rules.proofs.Sets.{has-in, in-has, has-none, setOf-low, has-setOf, setOf-has, same-set, only-self, only-one, byte-colour, member-pos}
 
 -- ## Lines and the sets that they are taken from
 
@@ -133,6 +133,19 @@ under-of [] (t ∷ ts) e f = omega arith
 under-of (s ∷ ss) [] e f = omega arith
 under-of (s ∷ ss) (t ∷ ts) e f = (f 0, under-of ss ts (omega arith) (λ i. f (suc i)))
 
+pub under-length : (ss ts : List ℕ) → Under ss ts → length ss ≡ length ts
+under-length [] [] u = refl
+under-length [] (t ∷ ts) u = absurd u
+under-length (s ∷ ss) [] u = absurd u
+under-length (s ∷ ss) (t ∷ ts) u = ap suc (under-length ss ts (u .1))
+
+-- a line taken from sets is taken from wider ones
+pub from-under : {ss line : List ℕ} (ts : List ℕ) → Under ss ts → From ss line → From ts line
+from-under [] u end = end
+from-under (t ∷ ts) u end = absurd u
+from-under [] u (cell h f) = absurd u
+from-under (t ∷ ts) u (cell {s = s} {c = c} h f) = cell (in-has t c (u .0 c (has-in s c h))) (from-under ts (u .1) f)
+
 -- each cell is a byte
 abbrev pub Bytes : List ℕ → Type 0
 Bytes sets = (i : ℕ) → i < length sets → getD sets i 0 < 256
@@ -234,6 +247,54 @@ module _ (clue : Clue) (sets : List ℕ) (bytes : Bytes sets) where
       ))
       (λ e a. clash (arranged-fits clue sets a) e)
 
+-- ## What reducing leaves
+
+-- a line that is arranged is taken from what reducing leaves; so none is arranged at a contradiction
+abbrev pub Leaves : List Colour → Option (List ℕ) → Type 0
+Leaves line none = ⊥
+Leaves line (some out) = From out line
+
+pub reduce-leaves : (clue : Clue) (sets : List ℕ) {line : List Colour} → Bytes sets → Meets clue line → From sets line → Leaves line (reduce clue sets)
+reduce-leaves clue sets {line} bytes m f = go (reduce clue sets) (reduce-is clue sets bytes)
+  where
+    go : (r : Option (List ℕ)) → Reduces clue sets r → Leaves line r
+    go none p = p (record { line = line; meets = m; taken = f })
+    go (some out) p = at-from out line (p .1 .same ∙ from-length f)
+        (λ i h. p .1 .exact i (getD line i 0) (let z = p .1 .same in omega arith) .1 (record { line = line; meets = m; taken = f; there = refl }))
+
+-- each reduced cell keeps a colour
+pub reduce-filled : (clue : Clue) (sets out : List ℕ) → Bytes sets → reduce clue sets ≡ some out → (i : ℕ) → i < length out → 0 < getD out i 0
+reduce-filled clue sets out bytes e i h =
+    let a = subst (Reduces clue sets) e (reduce-is clue sets bytes) .0 in
+    let f : From out (a .line) = subst (Leaves (a .line)) e (reduce-leaves clue sets bytes (a .meets) (a .taken)) in
+    member-pos (getD out i 0) (getD (a .line) i 0) (has-in (getD out i 0) (getD (a .line) i 0) (from-at i f h))
+
+-- narrower sets reduce to narrower sets; so where they are no contradiction, the wider ones are none
+abbrev pub Above : List ℕ → Option (List ℕ) → Type 0
+Above out none = ⊥
+Above out (some wide) = Under out wide
+
+pub reduce-narrower : (clue : Clue) (ss ts out : List ℕ) → Bytes ss → Bytes ts → Under ss ts → reduce clue ss ≡ some out → Above out (reduce clue ts)
+reduce-narrower clue ss ts out m n u e = go (reduce clue ts) refl
+  where
+    p : Arranged clue ss × Reduced clue ss out
+    p = subst (Reduces clue ss) e (reduce-is clue ss m)
+
+    left : {line : List Colour} → Meets clue line → From ss line → Leaves line (reduce clue ts)
+    left h f = reduce-leaves clue ts n h (from-under ts u f)
+
+    go : (r : Option (List ℕ)) → reduce clue ts ≡ r → Above out r
+    go none k = subst (Leaves (p .0 .line)) k (left (p .0 .meets) (p .0 .taken))
+    go (some wide) k = under-of out wide (p .1 .same ∙ under-length ss ts u ∙ sym (reduce-length clue ts wide k)) each
+      where
+        each : (i x : ℕ) → has (getD out i 0) x ≡ true → has (getD wide i 0) x ≡ true
+        each i x h = by-test (ltb i (length ss))
+            (λ l. let q = p .1 .exact i x (ltb-true i (length ss) l) .0 (in-has (getD out i 0) x h) in
+            let f : From wide (q .line) = subst (Leaves (q .line)) k (left (q .meets) (q .taken)) in
+            subst (λ y. has (getD wide i 0) y ≡ true) (q .there)
+            (has-in (getD wide i 0) (getD (q .line) i 0) (from-at i f (let z = ltb-true i (length ss) l in let y = under-length ss ts u in let w = reduce-length clue ts wide k in omega arith))))
+            (λ l. clash h (ap (λ s. has s x) (List·getD-eq-default out 0 (let z = ltb-false i (length ss) l in let y = p .1 .same in omega arith)) ∙ has-none x))
+
 -- ## A line's clue and sets determine what it reduces to
 
 pub reduced-same : {clue : Clue} {sets a b : List ℕ} → Bytes a → Bytes b → Reduced clue sets a → Reduced clue sets b → a ≡ b
@@ -263,6 +324,28 @@ reduces-is clue sets a m n p = reduces-same clue sets a (reduce clue sets) n (gi
     given none e = tt
     given (some out) e = reduce-bytes clue sets out e
 
+-- a reduced line reduces to itself
+pub reduce-again : (clue : Clue) (sets out : List ℕ) → Bytes sets → reduce clue sets ≡ some out → reduce clue out ≡ some out
+reduce-again clue sets out bytes e = sym (reduces-is clue out (some out) small small (record { line = p .0 .line; meets = p .0 .meets; taken = left (p .0 .meets) (p .0 .taken) }, again))
+  where
+    p : Arranged clue sets × Reduced clue sets out
+    p = subst (Reduces clue sets) e (reduce-is clue sets bytes)
+
+    small : Bytes out
+    small = reduce-bytes clue sets out e
+
+    left : {line : List Colour} → Meets clue line → From sets line → From out line
+    left {line} m f = subst (Leaves line) e (reduce-leaves clue sets bytes m f)
+
+    again : Reduced clue out out
+    again = record {
+      same = refl;
+      exact = λ i c h. (
+        λ k. let q = p .1 .exact i c (let z = p .1 .same in omega arith) .0 k in record { line = q .line; meets = q .meets; taken = left (q .meets) (q .taken); there = q .there },
+        λ q. subst (λ x. getD out i 0 ∋ x) (q .there) (from-at i (q .taken) h),
+      );
+    }
+
 -- ## Solved lines
 
 only-from : (line : List Colour) → From (map only line) line
@@ -272,6 +355,11 @@ only-from (c ∷ line) = cell (in-has (only c) c (only-self c)) (only-from line)
 from-only : (line : List Colour) {other : List Colour} → From (map only line) other → other ≡ line
 from-only [] end = refl
 from-only (c ∷ line) (cell {c = x} {line = l} h f) = ap₂ (λ (y : ℕ) (r : List ℕ). y ∷ r) (only-one c x (has-in (only c) x h)) (from-only line f)
+
+-- a line taken from sets, each colour alone in its cell, lies under them
+pub only-under : {sets line : List ℕ} → From sets line → Under (map only line) sets
+only-under end = tt
+only-under (cell {s = s} {c = c} h f) = (λ x k. subst (λ y. has s y ≡ true) (sym (only-one c x k)) (has-in s c h), only-under f)
 
 -- a solved line fits exactly if its colours meet the clue
 pub meets-solved : (clue : Clue) (line : List Colour) → Meets clue line → fits clue (map only line) ≡ true

@@ -2,14 +2,15 @@
 use mathlib.Core.Path.{_≡_, refl, sym, ap, ap₂, subst, _∙_}
 use mathlib.Core.Logic.{_⊎_, inl, inr, _≢_}
 use mathlib.Core.Bool.{Bool, true, false, not, _&&_, _||_, true≢false, false≢true}
-use mathlib.Core.List.{List, [], _∷_, _++_, map, List·Memᴰ, List·Memᴰ·head, List·Memᴰ·tail, List·Memᴰ·cases-cons, List·Memᴰ·not-nil}
+use mathlib.Core.List.{List, [], _∷_, _++_, map, List·Memᴰ, List·Memᴰ·head, List·Memᴰ·tail, List·Memᴰ·cases-cons, List·Memᴰ·not-nil, List·Memᴰ·append-cases}
 use mathlib.Core.Option.{Option, none, some}
 use Prim.Native.Nat.{ℕ, zero, suc, _+_, _-_, _*_, _≤_, _<_}
 use native.Mathlib.Numerals.{add-one}
 use native.Mathlib.Omega.{arith}
-use lib.ListN.{length, getD, set}
+use lib.ListN.{length, getD, replicate}
 use lib.Dec.{eqb}
-use Rattle.rules.specs.Lists.{keep, every, any, first, from, sum, digit}
+use borrow.Author.Tests.{eqb-true, eq-eqb}
+use Rattle.rules.specs.Lists.{keep, every, any, first, joined, from, sum, digit}
 use Rattle.rules.proofs.Tests.{on-test, by-test, by-equal, clash, and-true, true-and, or-true}
 
 -- a is in l
@@ -68,6 +69,15 @@ module _ {A : Type 0} (p : A → Bool) where
       go true h k ih = let q : a ≡ x = cc in (List·Memᴰ·head q, ap p q ∙ h)
       go false h k ih = let r = ih k in (List·Memᴰ·tail (r .0), r .1)
 
+  -- where there is no first, none passes
+  pub first-none : (l : List A) {a : A} → first p l ≡ none → In a l → p a ≡ false
+  first-none [] e m = absurd (List·Memᴰ·not-nil m)
+  first-none (x ∷ l) {a} e m = go (p x) refl e (λ k n. first-none l k n)
+    where
+      go : (v : Bool) → p x ≡ v → _≡_ {A = Option A} (elim v [ true ↦ some x | false ↦ first p l ]) none → (first p l ≡ none → In a l → p a ≡ false) → p a ≡ false
+      go true h k ih = absurd (let z : _≡_ {A = ℕ} 0 1 = cc in omega arith)
+      go false h k ih = elim (List·Memᴰ·cases-cons m) [ inl q ↦ ap p q ∙ h | inr n ↦ ih k n ]
+
   -- and where some element passes, there is a first
   pub first-found : (l : List A) → any p l ≡ true → (a : A) × (first p l ≡ some a) × In a l × (p a ≡ true)
   first-found [] e = absurd (false≢true e)
@@ -109,6 +119,11 @@ keep-less p q (x ∷ l) f {a} m h k =
           (λ u. on-test (λ r. suc (length (keep p l)) < length r) (q x) (λ v. omega arith) (λ v. clash (f x (List·Memᴰ·head refl) u) v))
           (λ u. on-test (λ r. length (keep p l) < length r) (q x) (λ v. omega arith) (λ v. omega arith)))
     ]
+
+-- a list with an element is not empty
+pub in-some : {A : Type 0} {l : List A} {a : A} → In a l → 0 < length l
+in-some {l = []} m = absurd (List·Memᴰ·not-nil m)
+in-some {l = x ∷ l} m = omega arith
 
 -- tests that agree keep the same
 pub keep-same : {A : Type 0} (p q : A → Bool) (l : List A) → ((a : A) → In a l → p a ≡ q a) → keep p l ≡ keep q l
@@ -156,6 +171,17 @@ pub in-getD : {A : Type 0} (l : List A) (d : A) {a : A} → In a l → (i : ℕ)
 in-getD [] d m = absurd (List·Memᴰ·not-nil m)
 in-getD (x ∷ l) d m = elim (List·Memᴰ·cases-cons m) [ inl q ↦ (0, omega arith, q) | inr n ↦ (let r = in-getD l d n in (suc (r .0), omega (arith, r .1), r .2)) ]
 
+pub getD-replicate-same : {A : Type 0} (n i : ℕ) (a : A) → getD (replicate n a) i a ≡ a
+getD-replicate-same zero i a = refl
+getD-replicate-same (suc n) zero a = refl
+getD-replicate-same (suc n) (suc i) a = getD-replicate-same n i a
+
+-- a number is in a list, or it is not
+pub in-or-not : (c : ℕ) (l : List ℕ) → In c l ⊎ (In c l → ⊥)
+in-or-not c l = by-test (any (eqb c) l)
+    (λ e. let r = any-out (eqb c) l e in inl (subst (λ x. In x l) (sym (eqb-true c (r .0) (r .2))) (r .1)))
+    (λ e. inr (λ m. clash (any-in (eqb c) l m (eq-eqb c c refl)) e))
+
 pub in-map : {A C : Type 0} (f : A → C) (l : List A) {a : A} → In a l → In (f a) (map f l)
 in-map f [] m = absurd (List·Memᴰ·not-nil m)
 in-map f (x ∷ l) m = elim (List·Memᴰ·cases-cons m) [ inl q ↦ List·Memᴰ·head (ap f q) | inr n ↦ List·Memᴰ·tail (in-map f l n) ]
@@ -163,3 +189,29 @@ in-map f (x ∷ l) m = elim (List·Memᴰ·cases-cons m) [ inl q ↦ List·Mem�
 pub map-in : {A C : Type 0} (f : A → C) (l : List A) {y : C} → In y (map f l) → (a : A) × In a l × (y ≡ f a)
 map-in f [] m = absurd (List·Memᴰ·not-nil m)
 map-in f (x ∷ l) m = elim (List·Memᴰ·cases-cons m) [ inl q ↦ (x, List·Memᴰ·head refl, q) | inr n ↦ (let r = map-in f l n in (r .0, List·Memᴰ·tail (r .1), r .2)) ]
+
+-- element i of what a function gives of a list
+pub getD-map : {A C : Type 0} (f : A → C) (l : List A) (i : ℕ) (d : C) (e : A) → i < length l → getD (map f l) i d ≡ f (getD l i e)
+getD-map f [] i d e h = absurd (omega arith)
+getD-map f (x ∷ l) zero d e h = refl
+getD-map f (x ∷ l) (suc i) d e h = getD-map f l i d e (omega arith)
+
+-- functions that agree on a list give the same of it, and the other way round
+pub map-same : {A C : Type 0} (f g : A → C) (l : List A) → ((a : A) → In a l → f a ≡ g a) → map f l ≡ map g l
+map-same f g [] h = refl
+map-same {C = C} f g (x ∷ l) h = ap₂ (λ (y : C) (r : List C). y ∷ r) (h x (List·Memᴰ·head refl)) (map-same f g l (λ a m. h a (List·Memᴰ·tail m)))
+
+pub map-agree : {A C : Type 0} (f g : A → C) (l : List A) {a : A} → map f l ≡ map g l → In a l → f a ≡ g a
+map-agree f g [] e m = absurd (List·Memᴰ·not-nil m)
+map-agree f g (x ∷ l) e m = elim (List·Memᴰ·cases-cons m) [ inl q ↦ ap f q ∙ here ∙ ap g (sym q) | inr n ↦ map-agree f g l there n ]
+  where
+    here : f x ≡ g x
+    here = cc
+
+    there : map f l ≡ map g l
+    there = cc
+
+-- an element of lists joined is in one of them
+pub joined-in : {A C : Type 0} (f : A → List C) (l : List A) {y : C} → In y (joined (map f l)) → (a : A) × In a l × In y (f a)
+joined-in f [] m = absurd (List·Memᴰ·not-nil m)
+joined-in f (x ∷ l) m = elim (List·Memᴰ·append-cases (f x) m) [ inl k ↦ (x, List·Memᴰ·head refl, k) | inr k ↦ (let r = joined-in f l k in (r .0, List·Memᴰ·tail (r .1), r .2)) ]

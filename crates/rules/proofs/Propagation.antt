@@ -7,7 +7,7 @@ use mathlib.Core.Option.{Option, none, some}
 use Prim.Native.Nat.{ℕ, zero, suc, _+_, _*_, _≤_, _<_}
 use native.Mathlib.Nat.{mul-le-mul-right}
 use native.Mathlib.Omega.{arith}
-use lib.ListN.{length}
+use lib.ListN.{length, getD, length-map}
 use lib.Dec.{eqb}
 use borrow.Author.Tests.{eq-eqb, not-true}
 use Rattle.rules.specs.Lists.{keep, any, first, from}
@@ -17,10 +17,10 @@ use Rattle.rules.specs.Lines.{reduce}
 use Rattle.rules.specs.Boards.{Board, Cell, at, size, Puzzle, lineCount, rowOf, columnOf, lineCells, lineOf, clueAt, crossing}
 use Rattle.rules.specs.Propagation.{Pending, pending, write, next, woken, pend, reduced, propagateStep, propagateMeasure, propagateOn, propagate}
 use Rattle.rules.proofs.Tests.{on-option, by-test, clash, and-true, or-true}
-use Rattle.rules.proofs.Lists.{In, keep-few, keep-less, any-out, any-in, first-some, length-from, from-low, below}
+use Rattle.rules.proofs.Lists.{In, keep-few, keep-less, any-out, any-in, first-some, length-from, from-low, below, getD-map}
 use Rattle.rules.proofs.Loops.{run-is, run-ends}
 use Rattle.rules.proofs.Sets.{has-setOf}
-use Rattle.rules.proofs.Lines.{reduce-under}
+use Rattle.rules.proofs.Lines.{Bytes, reduce-under}
 use Rattle.rules.proofs.Narrowing.{_⊑_, ⊑-refl, ⊑-trans, write-sub, sub-size, lost-less}
 
 module _ (z : Puzzle) where
@@ -30,6 +30,10 @@ module _ (z : Puzzle) where
 
   pub after-sub : (b : Board) (i : ℕ) (sets : List ℕ) → reduce (clueAt z i) (lineOf z b i) ≡ some sets → after b i sets ⊑ b
   after-sub b i sets e = write-sub b b (lineCells z i) sets (⊑-refl b) (reduce-under (clueAt z i) (lineOf z b i) sets e)
+
+  -- lines of a board of bytes
+  pub line-bytes : (b : Board) (i : ℕ) → ((c : Cell) → at b c < 256) → Bytes (lineOf z b i)
+  line-bytes b i h j l = subst (λ s. s < 256) (sym (getD-map (at b) (lineCells z i) j 0 0 (let e = length-map (lineCells z i) (at b) in omega arith))) (h (getD (lineCells z i) j 0))
 
   -- the pending lines, one by one
   pub pend-has : (i : ℕ) (b a : Board) (p j : ℕ) → j < lineCount z → has (pend z i b a p) j ≡ ((has p j && not (eqb j i)) || woken z i b a j)
@@ -64,14 +68,10 @@ module _ (z : Puzzle) where
   unfolding members
   members-few p = let k = keep-few (has p) (from 0 (lineCount z)) in let l = length-from 0 (lineCount z) in omega arith
 
-  Smaller : ℕ → Turn Pending (Option Board) → Type 0
-  Smaller m = Holds (λ t. propagateMeasure z t < m) (λ r. Unit {0})
-
-  reduced-smaller : (b : Board) (p i : ℕ) → i < lineCount z → has p i ≡ true → (r : Option (List ℕ)) → reduce (clueAt z i) (lineOf z b i) ≡ r →
-      Smaller (propagateMeasure z (pending b p)) (reduced z b p i r)
-  unfolding Smaller
-  reduced-smaller b p i l h none e = tt
-  reduced-smaller b p i l h (some sets) e =
+  -- whichever pending line is reduced, a colour goes from the board or a line fewer is pending
+  pub turn-smaller : (b : Board) (p i : ℕ) (sets : List ℕ) → i < lineCount z → has p i ≡ true → reduce (clueAt z i) (lineOf z b i) ≡ some sets →
+      propagateMeasure z (pending (after b i sets) (pend z i b (after b i sets) p)) < propagateMeasure z (pending b p)
+  turn-smaller b p i sets l h e =
       let a = after b i sets in
       let s : a ⊑ b = after-sub b i sets e in
       by-test (any (λ c. lost (at b c) (at a c)) (lineCells z i))
@@ -81,6 +81,15 @@ module _ (z : Puzzle) where
       omega (arith, members-few (pend z i b a p)))
       (λ t. let q : size a * suc (lineCount z) ≤ size b * suc (lineCount z) = mul-le-mul-right (suc (lineCount z)) (sub-size a b s) in
       omega (arith, quiet-fewer a b p i l h t))
+
+  Smaller : ℕ → Turn Pending (Option Board) → Type 0
+  Smaller m = Holds (λ t. propagateMeasure z t < m) (λ r. Unit {0})
+
+  reduced-smaller : (b : Board) (p i : ℕ) → i < lineCount z → has p i ≡ true → (r : Option (List ℕ)) → reduce (clueAt z i) (lineOf z b i) ≡ r →
+      Smaller (propagateMeasure z (pending b p)) (reduced z b p i r)
+  unfolding Smaller
+  reduced-smaller b p i l h none e = tt
+  reduced-smaller b p i l h (some sets) e = turn-smaller b p i sets l h e
 
   -- PROPAGATING ENDS
   pub propagate-falls : Falls (propagateStep z) (propagateMeasure z)

@@ -14,7 +14,8 @@ use borrow.Author.Tests.{eqb-true, eqb-false, eq-eqb, ne-eqb, le-leb, leb-true, 
 use Rattle.rules.specs.Lists.{keep, any, from, sum, digit}
 use Rattle.rules.specs.Sets.{Colour, bit, _∋_, has, members, setOf, palette, colours, single, empty, only, without, lost, proper}
 use Rattle.rules.proofs.Tests.{on-test, by-test, by-equal, clash, and-true, true-and, same-test}
-use Rattle.rules.proofs.Lists.{In, keep-in, in-keep, keep-same, keep-few, any-out, any-in, length-from, from-low, below}
+use Rattle.rules.proofs.Lists.{In, keep-in, in-keep, keep-same, keep-few, any-out, any-in, every-out, length-from, from-low, below}
+use Rattle.rules.proofs.Distinct.{Distinct, keep-distinct, from-distinct, distinct-few}
 
 -- ## Bits
 
@@ -227,9 +228,12 @@ pub without-sub : (s c y : ℕ) → has (without s c) y ≡ true → has s y ≡
 unfolding without
 without-sub s c y e = and-true (has s y) (not (eqb y c)) (setOf-has 8 (λ y. has s y && not (eqb y c)) y e .1) .0
 
--- a member of a byte is below eight
+-- a member of a set below 2 ^ n is below n, and so of a byte below eight
+pub member-low : (n s c : ℕ) → s < 2 ^ n → has s c ≡ true → c < n
+member-low n s c h e = by-test (ltb c n) (λ k. ltb-true c n k) (λ k. clash e (has-high s n c h (ltb-false c n k)))
+
 pub byte-colour : (s c : ℕ) → s < 256 → has s c ≡ true → c < 8
-byte-colour s c h e = by-test (ltb c 8) (λ k. ltb-true c 8 k) (λ k. clash e (has-high s 8 c h (ltb-false c 8 k)))
+byte-colour s c h e = member-low 8 s c h e
 
 -- two sets of one list's length
 one-of : {A : Type 0} (l : List A) {x y : A} → length l ≡ 1 → In x l → In y l → x ≡ y
@@ -250,6 +254,18 @@ single-some s e = go (colours s) refl (eqb-true (length (colours s)) 1 e)
     go : (l : List ℕ) → colours s ≡ l → length l ≡ 1 → (x : ℕ) × (x < 8) × (has s x ≡ true)
     go [] q h = absurd (omega arith)
     go (x ∷ l) q h = let r = member 8 s (subst (λ k. In x k) (sym q) (List·Memᴰ·head refl)) in (x, r .0, r .1)
+
+-- a solved cell is the set of its colour, and the other way round
+pub single-only : (s x : ℕ) → s < 256 → single s ≡ true → has s x ≡ true → s ≡ only x
+single-only s x h e p = let l = byte-colour s x h p in
+    same-set 8 s (only x) h (only-low 8 x l)
+    (λ c k. same-test (has s c) (has (only x) c)
+    (λ q. has-only x c ∙ eq-eqb c x (single-one s c x e k l q p))
+    (λ q. subst (λ y. has s y ≡ true) (sym (only-one x c q)) p))
+
+pub only-single : (x : ℕ) → x < 8 → single (only x) ≡ true
+unfolding single members has bit
+only-single x h = every-out (λ y. single (only y)) palette refl (below 8 x h)
 
 -- a set that is not empty has a colour, and the other way round
 pub not-empty : (s : ℕ) → empty s ≡ false → (x : ℕ) × (x < 8) × (has s x ≡ true)
@@ -274,6 +290,13 @@ unfolding lost
 lost-out s t e = let r = any-out (λ c. has s c && not (has t c)) palette e in let l = from-low 0 8 (r .1) in
     let k = and-true (has s (r .0)) (not (has t (r .0))) (r .2) in (r .0, omega arith, k .0, not-true (has t (r .0)) (k .1))
 
+-- a byte that has lost none is as it was
+pub lost-none : (s t : ℕ) → s < 256 → ((x : ℕ) → has t x ≡ true → has s x ≡ true) → lost s t ≡ false → t ≡ s
+unfolding lost
+lost-none s t h f e = same-set 8 t s (let k = within-le t s f in omega arith) h
+    (λ c l. same-test (has t c) (has s c) (f c)
+    (λ p. by-test (has t c) (λ q. q) (λ q. clash (any-in (λ x. has s x && not (has t x)) palette (below 8 c l) (true-and p (ap not q))) e)))
+
 -- a number that is not 0 has a member
 pub some-member : (n s : ℕ) → 0 < s → s < 2 ^ n → (x : ℕ) × (x < n) × (has s x ≡ true)
 some-member n s h k = by-test (any (has s) (from 0 n))
@@ -289,3 +312,11 @@ member-pos (suc s) x e = omega arith
 pub colours-few : (s : ℕ) → length (colours s) ≤ 8
 unfolding members
 colours-few s = let z = keep-few (has s) palette in let y = length-from 0 8 in omega arith
+
+pub members-distinct : (n s : ℕ) → Distinct (members n s)
+unfolding members
+members-distinct n s = keep-distinct (has s) (from 0 n) (from-distinct 0 n)
+
+-- and at most n where none is n or above
+pub colours-within : (n s : ℕ) → s < 2 ^ n → length (colours s) ≤ n
+colours-within n s h = distinct-few n (colours s) (members-distinct 8 s) (λ c m. member-low n s c h (member 8 s m .1))

@@ -28,6 +28,10 @@ by-test false f g = g refl
 pub by-equal : {P : Type 0} (a b : ℕ) → (a ≡ b → P) → (a ≢ b → P) → P
 by-equal a b f g = by-test (eqb a b) (λ e. f (eqb-true a b e)) (λ e. g (eqb-false a b e))
 
+-- a test that passes, and the other case is not taken
+pub passed : {A : Type 0} {v : Bool} {a : A} (b : A) → v ≡ true → (elim v as (λ _. A) [ true ↦ a | false ↦ b ]) ≡ a
+passed {A} {v} {a} b e = ap (λ u. elim u as (λ _. A) [ true ↦ a | false ↦ b ]) e
+
 pub clash : {P : Type 0} {v : Bool} → v ≡ true → v ≡ false → P
 clash p q = absurd (true≢false (sym p ∙ q))
 

@@ -10,3 +10,4 @@ pub mod Roots
 pub mod Probing
 pub mod Guesses
 pub mod Answers
+pub mod Promises

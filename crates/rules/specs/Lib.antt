@@ -13,4 +13,5 @@ pub mod Probing
 pub mod Guesses
 pub mod Search
 pub mod Answers
+pub mod Promises
 pub mod Examples
