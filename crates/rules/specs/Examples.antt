@@ -9,5 +9,6 @@ pub mod Floats
 pub mod Roots
 pub mod Probing
 pub mod Guesses
+pub mod Search
 pub mod Answers
 pub mod Promises

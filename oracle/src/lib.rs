@@ -1,0 +1,45 @@
+//! The published search of nonogrid over a plain stand-in for the parts that it calls, as the judge of Belutharin.
+//!
+//! `unmended::solve` runs the files as published, `mended::solve` with document 01's four mends: both take bytes and give
+//! document 01's numbers. `raw` holds what needs no search, `generate` makes puzzles from a seed, and
+//! `damage` breaks them.
+
+// Both builds are read out by one file.
+#![allow(clippy::duplicate_mod)]
+
+extern crate alloc;
+// The published files ask `std` for the time and for an environment variable. Inside this crate that name means the crate
+// itself, so that the clock counts steps and the environment is empty without a change to the files.
+extern crate self as std;
+
+use core::{cmp, fmt, marker};
+
+mod block;
+mod board;
+mod clock;
+pub mod damage;
+pub mod generate;
+pub mod puzzle;
+pub mod raw;
+mod replaced;
+mod solver;
+mod utils;
+
+use clock as time;
+
+/// The search as published.
+pub mod unmended {
+    pub use crate::solver::unmended::reading::solve;
+}
+
+/// The search with document 01's four mends.
+pub mod mended {
+    pub use crate::solver::mended::reading::solve;
+}
+
+/// What the published files see of the environment: no variable is set, so that `LOW_PRIORITY` keeps its default.
+mod env {
+    pub fn var(_name: &str) -> Result<String, ()> {
+        Err(())
+    }
+}
