@@ -80,7 +80,7 @@ later-now rest (s ∷ sets) e = rw (e, later)
 later-more : (rest : List ℕ → Bool) (s : ℕ) (sets : List ℕ) → s ∋ 0 → later rest sets ≡ true → later rest (s ∷ sets) ≡ true
 later-more rest s sets h e = by-test (rest (s ∷ sets)) (λ k. rw (k, later)) (λ k. rw (k, has-in s 0 h, later) e)
 
-blanks : (n : ℕ) {clue : Clue} {line : List Colour} → Meets clue line → Meets clue (replicate n 0 ++ line)
+pub blanks : (n : ℕ) {clue : Clue} {line : List Colour} → Meets clue line → Meets clue (replicate n 0 ++ line)
 blanks zero m = m
 blanks (suc n) m = blank (blanks n m)
 
