@@ -1,25 +1,25 @@
--- How the queue's arrays follow the rules: what each store does, and how the cell that goes first is found and popped.
+-- How the queue's arrays follow the rules: what each store does, and what is popped.
 use mathlib.Core.Path.{_≡_, refl, sym, ap, _∙_}
 use mathlib.Core.Bool.{true, false, false≢true}
 use mathlib.Core.List.{List}
 use mathlib.Core.Option.{Option, none, some}
-use Prim.Native.Nat.{ℕ, zero, suc, _+_, _-_, _≤_, _<_}
+use Prim.Native.Nat.{ℕ, zero, suc, _≤_, _<_}
 use native.Mathlib.Omega.{arith}
 use lib.ListN.{length, length-map, getD, getD-replicate, set, replicate}
 use lib.Seq.{getD-set-same, getD-set-other, set-out}
-use lib.Ieee.{Float, nan, lt}
+use lib.Ieee.{Float, nan}
 use mir.Val.{Val}
 use denote.Laws.{Is}
 use denote.Struct.Declared.{row}
 use Rattle.rules.specs.Lists.{from}
-use Rattle.rules.specs.Queues.{push, ahead, leader}
+use Rattle.rules.specs.Queues.{push, leader}
 use Rattle.rules.specs.Floats.{higher}
 use Rattle.rules.proofs.Given.{length-given, given-at, given-alike, given-set}
-use Rattle.rules.proofs.Queues.{ahead-higher, ahead-lower, leader-more, leader-end, pop-leader, pop-nothing, pop-some, pop-low}
-use Rattle.cells.specs.declared.CellNo.{CellNo}
+use Rattle.rules.proofs.Queues.{pop-some, pop-low}
 use Rattle.queues.specs.declared.Queue.{Queue}
 use Rattle.queues.specs.declared.Best.{Best}
-use Rattle.queues.specs.Entries.{entry, entryAt, queueOf, bestOf, poppedOf, Holds, Taken}
+use Rattle.queues.specs.Entries.{entry, entryAt, queueOf, bestOf, Holds, PoppedFrom}
+use Rattle.queues.proofs.Leading.{found-pops, none-pops}
 use Rattle.queues.proofs.Queue as queue
 
 -- a queue that a function is passed, or is returned, has 256 places
@@ -34,7 +34,7 @@ pub queue-length : (q : Queue) → length (queueOf q) ≡ q .n
 unfolding queueOf
 queue-length q = length-given (entryAt q) 0 (q .n)
 
-queue-at : (q : Queue) (c : ℕ) → c < q .n → getD (queueOf q) c none ≡ entryAt q c
+pub queue-at : (q : Queue) (c : ℕ) → c < q .n → getD (queueOf q) c none ≡ entryAt q c
 unfolding queueOf
 queue-at q c h = given-at (entryAt q) (q .n) c none h
 
@@ -78,70 +78,25 @@ taken-holds q c l h = record {
 pub past-holds : (q : Queue) (c : ℕ) (e : Option Float) → q .n ≤ 256 → q .n ≤ c → Holds (q .n) (set (queueOf q) c e) q
 past-holds q c e h k = record { size = refl; within = h; queue = sym (set-out (queueOf q) c e (omega (arith, queue-length q))) }
 
--- ## The cell that goes first
-
--- one more cell: it does not wait, or is the first that does, or is the higher, or is not
-module _ (b : Best) (c : CellNo) (w : ℕ) (p : Float) where
-  abbrev Ahead : Best → Type 0
-  Ahead r = bestOf r ≡ ahead higher (bestOf b) (c .0) (entry w p)
-
-  abbrev later : Best
-  later = record { found = true; cell = c; priority = p }
-
-  some-waits : (w ≡ 0 → ⊥) → entry w p ≡ some p
-  some-waits h = go w h
-    where
-      go : (w : ℕ) → (w ≡ 0 → ⊥) → entry w p ≡ some p
-      go zero h = absurd (h refl)
-      go (suc w) h = refl
-
-  pub none-waits : w ≡ 0 → Ahead b
-  none-waits e = rw e
-
-  module _ (h : w ≡ 0 → ⊥) where
-    pub first-waits : b .found ≡ false → Ahead later
-    unfolding bestOf
-    first-waits f = rw (some-waits h, f)
-
-    module _ (f : b .found ≡ true) where
-      held : bestOf b ≡ some (b .cell .0, b .priority)
-      unfolding bestOf
-      held = rw f
-
-      pub higher-waits : lt (b .priority) p ≡ true → Ahead later
-      unfolding bestOf
-      higher-waits k = rw (some-waits h, held) (sym (ahead-higher higher (b .cell .0, b .priority) (c .0) p k))
-
-      pub lower-waits : lt (b .priority) p ≡ false → Ahead b
-      lower-waits k = rw (some-waits h, held) (sym (ahead-lower higher (b .cell .0, b .priority) (c .0) p k))
-
--- the cell that goes first of those from i on and of the best of those passed
-abbrev pub leaderFrom : Queue → ℕ → Option (ℕ × Float) → Option (ℕ × Float)
-leaderFrom q i best = leader higher (queueOf q) (from i (q .n - i)) best
-
-pub leader-start : (q : Queue) → leaderFrom q 0 none ≡ leader higher (queueOf q) (from 0 (q .n)) none
-leader-start q = let z : q .n - 0 ≡ q .n = omega arith in ap (λ m. leader higher (queueOf q) (from 0 m) none) z
-
-pub leader-next : (q : Queue) (i : ℕ) (best : Option (ℕ × Float)) → i < q .n → leaderFrom q i best ≡ leaderFrom q (i + 1) (ahead higher best i (entryAt q i))
-leader-next q i best h = leader-more higher (queueOf q) (q .n) i best h ∙ ap (λ v. leaderFrom q (i + 1) (ahead higher best i v)) (queue-at q i h)
-
-pub leader-last : (q : Queue) (i : ℕ) (best : Option (ℕ × Float)) → q .n ≤ i → leaderFrom q i best ≡ best
-leader-last q i best h = leader-end higher (queueOf q) (q .n) i best h
-
 -- ## Popping
 
+-- a cell whose byte is not 0 waits
+pub waits-with : (w : ℕ) (p : Float) → (w ≡ 0 → ⊥) → entry w p ≡ some p
+waits-with zero p h = absurd (h refl)
+waits-with (suc w) p h = refl
+
 module _ (q : Queue) (b : Best) (h : q .n ≤ 256) (e : bestOf b ≡ leader higher (queueOf q) (from 0 (q .n)) none) where
-  leads : (o : Option (ℕ × Float)) → bestOf b ≡ o → leader higher (queueOf q) (from 0 (length (queueOf q))) none ≡ o
-  leads o f = ap (λ m. leader higher (queueOf q) (from 0 m) none) (queue-length q) ∙ sym e ∙ f
+  pub none-taken : b .found ≡ false → PoppedFrom q (record { found = false; cell = b .cell; queue = q })
+  none-taken f = record {
+    first = sym (none-pops higher (queueOf q) (q .n) (queue-length q) (b .found) (b .cell .0) (b .priority) e f);
+    below = λ u. absurd (false≢true u);
+    size = refl;
+    within = h;
+  }
 
-  pub none-taken : b .found ≡ false → Taken q (record { found = false; cell = b .cell; queue = q })
-  unfolding bestOf poppedOf
-  none-taken f = record { first = sym (pop-nothing higher (queueOf q) (leads none (rw f))); below = λ u. absurd (false≢true u); size = refl; within = h }
-
-  pub some-taken : (r : Queue) → b .found ≡ true → Holds (q .n) (set (queueOf q) (b .cell .0) none) r → Taken q (record { found = true; cell = b .cell; queue = r })
-  unfolding bestOf poppedOf
+  pub some-taken : (r : Queue) → b .found ≡ true → Holds (q .n) (set (queueOf q) (b .cell .0) none) r → PoppedFrom q (record { found = true; cell = b .cell; queue = r })
   some-taken r f u =
-      let p = pop-leader higher (queueOf q) (b .cell .0) (b .priority) (leads (some (b .cell .0, b .priority)) (rw f)) in
+      let p = found-pops higher (queueOf q) (q .n) (queue-length q) (b .found) (b .cell .0) (b .priority) e f in
       record {
         first = rw (u .queue) (sym p);
         below = λ _. rw (← queue-length q) (pop-low (queueOf q) (b .cell .0) _ (pop-some higher (queueOf q) _ _ p));

@@ -1,6 +1,6 @@
 -- What the queue's arrays stand for: the rules' queue, and the cell that goes first.
 use mathlib.Core.Path.{_≡_}
-use mathlib.Core.Bool.{true, false}
+use mathlib.Core.Bool.{Bool, true, false}
 use mathlib.Core.List.{map}
 use mathlib.Core.Option.{Option, none, some}
 use Prim.Native.Nat.{ℕ, zero, suc, _≤_, _<_}
@@ -28,13 +28,17 @@ entryAt q c = entry (getD (q .waits) c 0) (getD (q .priority) c nan)
 unfoldable pub queueOf : Queue → CellQueue
 queueOf q = map (entryAt q) (from 0 (q .n))
 
+-- a number and what comes with it, if one was found
+abbrev pub found : {A : Type 0} → Bool → ℕ → A → Option (ℕ × A)
+found v c a = elim v [ true ↦ some (c, a) | false ↦ none ]
+
 -- the cell found so far, and its priority
-unfoldable pub bestOf : Best → Option (Cell × Float)
-bestOf b = elim (b .found) [ true ↦ some (b .cell .0, b .priority) | false ↦ none ]
+abbrev pub bestOf : Best → Option (Cell × Float)
+bestOf b = found (b .found) (b .cell .0) (b .priority)
 
 -- the cell popped, and the queue without it
-unfoldable pub poppedOf : Popped → Option (Cell × CellQueue)
-poppedOf r = elim (r .found) [ true ↦ some (r .cell .0, queueOf (r .queue)) | false ↦ none ]
+abbrev pub poppedOf : Popped → Option (Cell × CellQueue)
+poppedOf r = found (r .found) (r .cell .0) (queueOf (r .queue))
 
 -- q is the rules' queue e, for n cells
 pub record Holds (n : ℕ) (e : CellQueue) (q : Queue) : Type 0 where
@@ -43,7 +47,7 @@ pub record Holds (n : ℕ) (e : CellQueue) (q : Queue) : Type 0 where
   pub queue : queueOf q ≡ e
 
 -- r is what popping gives of q
-pub record Taken (q : Queue) (r : Popped) : Type 0 where
+pub record PoppedFrom (q : Queue) (r : Popped) : Type 0 where
   pub first : poppedOf r ≡ pop higher (queueOf q)
   pub below : r .found ≡ true → r .cell .0 < q .n
   pub size : r .queue .n ≡ q .n

@@ -6,7 +6,7 @@ ghost use lib.ListN.{set, replicate};
 ghost use Rattle.rules.specs.Lists.{from};
 ghost use Rattle.rules.specs.Floats.{higher};
 ghost use Rattle.rules.specs.Queues as Queues;
-ghost use Rattle.queues.specs.Entries.{entry, queueOf, bestOf, Holds, Taken};
+ghost use Rattle.queues.specs.Entries.{entry, queueOf, bestOf, Holds, PoppedFrom};
 use cells::CellNo;
 
 // For each of n cells whether it waits, and with which priority: so each cell is held once.
@@ -109,7 +109,7 @@ impl Queue {
     // The cell that goes first, and the queue without it.
     pub fn pop(self) -> Popped
         requires { ⌜ self .n ≤ 256 ⌝ }
-        ensures { λ r. ⌜ Taken self r ⌝ }
+        ensures { λ r. ⌜ PoppedFrom self r ⌝ }
     {
         let best = self.leader();
         let c = best.cell;

@@ -3,6 +3,7 @@ pub mod Tests
 pub mod Lists
 pub mod Distinct
 pub mod Given
+pub mod Copies
 pub mod Loops
 pub mod Sets
 pub mod Boards
@@ -19,6 +20,7 @@ pub mod Narrowing
 pub mod Propagation
 pub mod Queues
 pub mod Probing
+pub mod Guesses
 pub mod Ends
 pub mod InOrder
 pub mod Fitting

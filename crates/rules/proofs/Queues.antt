@@ -141,6 +141,16 @@ module _ {A : Type 0} (higher : A → A → Bool) where
           let k : e .0 ≡ c = ap (λ x. x .0) pair in
           record { with = e .1; there = subst (λ i. getD q i none ≡ some (e .1)) k f; rest = sym (ap (λ x. x .1) pair) ∙ ap (λ i. set q i none) k }
 
+  -- one popped after the other
+  pub popped-some : (n : ℕ) (q : Queue A) (c : ℕ) (r : Queue A) → pop higher q ≡ some (c, r) → popped higher (suc n) q ≡ c ∷ popped higher n r
+  unfolding popped
+  popped-some n q c r e = ap (λ o. elim o as (λ _. List ℕ) [ none ↦ [] | some f ↦ f .0 ∷ popped higher n (f .1) ]) e
+
+  pub popped-none : (n : ℕ) (q : Queue A) → pop higher q ≡ none → popped higher n q ≡ []
+  unfolding popped
+  popped-none zero q e = refl
+  popped-none (suc n) q e = ap (λ o. elim o as (λ _. List ℕ) [ none ↦ [] | some f ↦ f .0 ∷ popped higher n (f .1) ]) e
+
   -- as many pops as wait are enough, and more change nothing
   pub popped-any : (n m : ℕ) (q : Queue A) → waiting q ≤ n → waiting q ≤ m → popped higher n q ≡ popped higher m q
   unfolding popped
