@@ -1,17 +1,17 @@
 -- The places of a line's cells, one by one, and the sets that are written there.
 use mathlib.Core.Path.{_≡_, refl, sym, ap, subst, _∙_}
-use mathlib.Core.List.{List, [], _∷_, map}
+use mathlib.Core.List.{List, [], _∷_, map, List·Memᴰ·head, List·Memᴰ·tail}
 use Prim.Native.Nat.{ℕ, zero, suc, _+_, _-_, _*_, _≤_, _<_}
 use native.Mathlib.Nat.{mul-le-mul}
 use native.Mathlib.Numerals.{add-one}
 use native.Mathlib.Omega.{arith}
 use lib.ListN.{length, getD, set, take, drop, replicate, length-map, length-set}
-use lib.Seq.{drop-cons, getD-take, getD-set-same, getD-set-other, ext-getD, length-take-le}
+use lib.Seq.{drop-cons, getD-take, getD-set-same, getD-set-other, take-set-lt, ext-getD, length-take-le}
 use borrow.Author.Tests.{lt-ltb, le-ltb}
 use Rattle.rules.specs.Lists.{from}
 use Rattle.rules.specs.Propagation.{write}
 use Rattle.rules.proofs.Tests.{by-equal}
-use Rattle.rules.proofs.Lists.{length-from}
+use Rattle.rules.proofs.Lists.{In, length-from}
 use Rattle.boards.specs.declared.line.Line.{Line}
 use Rattle.boards.specs.Line.{lineAt, places, Reaches}
 
@@ -98,3 +98,11 @@ pub writing-end : (before sets : List ℕ) (l : Line) (cells : List ℕ) (j : �
     cells ≡ write before (places l) (take (l .len) sets)
 unfolding write
 writing-end before sets l cells j w h = let z : l .len - j ≡ 0 = omega arith in sym (w .all ∙ rw z)
+
+-- writing on the first n cells
+pub take-write : (n : ℕ) (cells cs sets : List ℕ) → ((c : ℕ) → In c cs → c < n) → take n (write cells cs sets) ≡ write (take n cells) cs sets
+unfolding write
+take-write n cells [] sets f = refl
+take-write n cells (c ∷ cs) [] f = refl
+take-write n cells (c ∷ cs) (s ∷ sets) f =
+    take-write n (set cells c s) cs sets (λ a m. f a (List·Memᴰ·tail m)) ∙ ap (λ l. write l cs sets) (take-set-lt n cells c s (f c (List·Memᴰ·head refl)))

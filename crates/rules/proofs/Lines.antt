@@ -183,6 +183,18 @@ module _ (clue : Clue) (sets : List ℕ) where
       go true h = (refl, cc)
       go false h = absurd (let z : _≡_ {A = ℕ} 0 1 = cc in omega arith)
 
+  -- it is a contradiction exactly where no line is arranged
+  pub reduce-fits : (out : List ℕ) → reduce clue sets ≡ some out → fits clue sets ≡ true
+  reduce-fits out e = reduce-some out e .0
+
+  pub reduce-unfit : reduce clue sets ≡ none → fits clue sets ≡ false
+  unfolding reduce
+  reduce-unfit e = go (fits clue sets) e
+    where
+      go : (v : Bool) → _≡_ {A = Option (List ℕ)} (elim v [ true ↦ some (map (keptAt clue sets) (from 0 (length sets))) | false ↦ none ]) none → v ≡ false
+      go true h = absurd (let z : _≡_ {A = ℕ} 0 1 = cc in omega arith)
+      go false h = refl
+
   pub reduce-length : (out : List ℕ) → reduce clue sets ≡ some out → length out ≡ length sets
   reduce-length out e = ap length (reduce-some out e .1) ∙ kept-length
 

@@ -2,12 +2,13 @@
 use mathlib.Core.Path.{_≡_, refl, sym, ap, ap₂, subst, _∙_}
 use mathlib.Core.Logic.{_⊎_, inl, inr, _≢_}
 use mathlib.Core.Bool.{Bool, true, false, not, _&&_, _||_, true≢false, false≢true}
-use mathlib.Core.List.{List, [], _∷_, _++_, map, List·Memᴰ, List·Memᴰ·head, List·Memᴰ·tail, List·Memᴰ·cases-cons, List·Memᴰ·not-nil, List·Memᴰ·append-cases}
+use mathlib.Core.List.{List, [], _∷_, _++_, map, List·Memᴰ, List·Memᴰ·head, List·Memᴰ·tail, List·Memᴰ·cases-cons, List·Memᴰ·not-nil, List·Memᴰ·append-cases, append-assoc}
 use mathlib.Core.Option.{Option, none, some}
 use Prim.Native.Nat.{ℕ, zero, suc, _+_, _-_, _*_, _≤_, _<_}
 use native.Mathlib.Numerals.{add-one}
 use native.Mathlib.Omega.{arith}
-use lib.ListN.{length, getD, replicate}
+use lib.ListN.{length, getD, replicate, set, take}
+use lib.Seq.{take-suc-set}
 use lib.Dec.{eqb}
 use borrow.Author.Tests.{eqb-true, eq-eqb}
 use Rattle.rules.specs.Lists.{keep, every, any, first, joined, from, sum, digit}
@@ -88,6 +89,11 @@ module _ {A : Type 0} (p : A → Bool) where
       go true h k ih = (x, refl, List·Memᴰ·head refl, h)
       go false h k ih = let r = ih k in (r .0, r .1, List·Memᴰ·tail (r .2), r .3)
 
+  -- and where none does, there is none
+  pub none-first : (l : List A) → ((a : A) → In a l → p a ≡ false) → first p l ≡ none
+  none-first [] f = refl
+  none-first (x ∷ l) f = rw (f x (List·Memᴰ·head refl), first) (none-first l (λ a m. f a (List·Memᴰ·tail m)))
+
 -- what does not pass everywhere fails somewhere
 pub not-every : {A : Type 0} (p : A → Bool) (l : List A) → every p l ≡ false → any (λ a. not (p a)) l ≡ true
 not-every p [] e = absurd (true≢false e)
@@ -132,6 +138,15 @@ keep-same {A} p q (x ∷ l) f =
     let ih : keep p l ≡ keep q l = keep-same p q l (λ a m. f a (List·Memᴰ·tail m)) in
     ap₂ (λ (v : Bool) (r : List A). elim v as (λ _. List A) [ true ↦ x ∷ r | false ↦ r ]) (f x (List·Memᴰ·head refl)) ih
 
+-- tests that agree on a list agree on whether one passes, and on whether each does
+pub any-same : {A : Type 0} (p q : A → Bool) (l : List A) → ((a : A) → In a l → p a ≡ q a) → any p l ≡ any q l
+any-same p q [] f = refl
+any-same p q (x ∷ l) f = ap₂ _||_ (f x (List·Memᴰ·head refl)) (any-same p q l (λ a m. f a (List·Memᴰ·tail m)))
+
+pub every-same : {A : Type 0} (p q : A → Bool) (l : List A) → ((a : A) → In a l → p a ≡ q a) → every p l ≡ every q l
+every-same p q [] f = refl
+every-same p q (x ∷ l) f = ap₂ _&&_ (f x (List·Memᴰ·head refl)) (every-same p q l (λ a m. f a (List·Memᴰ·tail m)))
+
 -- ## Numbers
 
 pub length-from : (i n : ℕ) → length (from i n) ≡ n
@@ -148,6 +163,43 @@ in-from i (suc n) c h k = by-equal c i (λ e. List·Memᴰ·head e) (λ e. List�
 
 pub below : (n c : ℕ) → c < n → In c (from 0 n)
 below n c h = in-from 0 n c (omega arith) (omega arith)
+
+-- the first number that passes is the one that passes where none below it does
+pub first-least : (p : ℕ → Bool) (i n m : ℕ) → i ≤ m → m < i + n → p m ≡ true → ((j : ℕ) → i ≤ j → j < m → p j ≡ false) → first p (from i n) ≡ some m
+first-least p i zero m h k e f = absurd (omega arith)
+first-least p i (suc n) m h k e f = by-equal i m
+    (λ q. rw (ap p q ∙ e, first) (ap some q))
+    (λ q. let l : i < m = omega arith in rw (f i (omega arith) l, first) (first-least p (suc i) n m l (omega arith) e (λ j g r. f j (omega arith) r)))
+
+-- the numbers from i on, below n: the next one, and those after it
+pub from-more : (i n : ℕ) → i < n → from i (n - i) ≡ i ∷ from (i + 1) (n - (i + 1))
+from-more i n h = let z : n - i ≡ suc (n - (i + 1)) = omega arith in ap (from i) z ∙ ap (λ j. i ∷ from j (n - (i + 1))) (sym (add-one i))
+
+pub from-end : (i n : ℕ) → n ≤ i → from i (n - i) ≡ []
+from-end i n h = let z : n - i ≡ 0 = omega arith in ap (from i) z
+
+pub from-start : (n : ℕ) → from 0 (n - 0) ≡ from 0 n
+from-start n = let z : n - 0 ≡ n = omega arith in ap (from 0) z
+
+-- a test of those numbers, one after the other
+module _ (p : ℕ → Bool) (i n : ℕ) where
+  pub any-now : i < n → p i ≡ true → any p (from i (n - i)) ≡ true
+  any-now h e = rw (from-more i n h, e)
+
+  pub any-more : i < n → p i ≡ false → any p (from i (n - i)) ≡ any p (from (i + 1) (n - (i + 1)))
+  any-more h e = rw (from-more i n h, e)
+
+  pub any-end : n ≤ i → any p (from i (n - i)) ≡ false
+  any-end h = rw (from-end i n h)
+
+  pub first-now : i < n → p i ≡ true → first p (from i (n - i)) ≡ some i
+  first-now h e = rw (from-more i n h, e, first)
+
+  pub first-more : i < n → p i ≡ false → first p (from i (n - i)) ≡ first p (from (i + 1) (n - (i + 1)))
+  first-more h e = rw (from-more i n h, e, first)
+
+  pub first-end : n ≤ i → first p (from i (n - i)) ≡ none
+  first-end h = rw (from-end i n h)
 
 -- a list given number by number
 pub getD-given : {A : Type 0} (f : ℕ → A) (i n k : ℕ) (d : A) → k < n → getD (map f (from i n)) k d ≡ f (i + k)
@@ -210,6 +262,14 @@ map-agree f g (x ∷ l) e m = elim (List·Memᴰ·cases-cons m) [ inl q ↦ ap f
 
     there : map f l ≡ map g l
     there = cc
+
+pub any-map : {A C : Type 0} (p : C → Bool) (f : A → C) (l : List A) → any p (map f l) ≡ any (λ a. p (f a)) l
+any-map p f [] = refl
+any-map p f (x ∷ l) = ap (λ v. p (f x) || v) (any-map p f l)
+
+-- an array filled from the front gets its next element
+pub take-store : {A : Type 0} (l rest : List A) (n : ℕ) (a : A) → n < length l → take (n + 1) (set l n a) ++ rest ≡ take n l ++ (a ∷ rest)
+take-store l rest n a h = rw (add-one, take-suc-set l n a h) (append-assoc (take n l) (a ∷ []) rest)
 
 -- an element of lists joined is in one of them
 pub joined-in : {A C : Type 0} (f : A → List C) (l : List A) {y : C} → In y (joined (map f l)) → (a : A) × In a l × In y (f a)

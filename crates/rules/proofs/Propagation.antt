@@ -18,7 +18,7 @@ use Rattle.rules.specs.Boards.{Board, Cell, at, size, Puzzle, lineCount,
 use Rattle.rules.specs.Propagation.{Pending, pending, write, next, woken, pend, reduced, propagateStep, propagateMeasure, propagateOn, propagate}
 use Rattle.rules.proofs.Tests.{on-option, by-test, clash, and-true, or-true}
 use Rattle.rules.proofs.Lists.{In, keep-few, keep-less, any-out, any-in, first-some, length-from, from-low, below, getD-map}
-use Rattle.rules.proofs.Loops.{run-is, run-ends}
+use Rattle.rules.proofs.Loops.{run-is, run-more, run-stop, run-ends}
 use Rattle.rules.proofs.Sets.{has-setOf}
 use Rattle.rules.proofs.Lines.{Bytes, reduce-under}
 use Rattle.rules.proofs.Narrowing.{_⊑_, ⊑-refl, ⊑-trans, write-sub, sub-size, lost-less}
@@ -101,6 +101,18 @@ module _ (z : Puzzle) where
   pub propagate-turn : (t : Pending) → propagateOn z t ≡ (elim (propagateStep z t) as (λ _. Option Board) [ more u ↦ propagateOn z u | stop r ↦ r ])
   unfolding propagateOn
   propagate-turn t = run-is (propagateStep z) (propagateMeasure z) propagate-falls (λ u. none) t
+
+  -- one step of it, and the last
+  pub propagate-more : (t : Pending) {u : Pending} → propagateStep z t ≡ more u → propagateOn z t ≡ propagateOn z u
+  unfolding propagateOn
+  propagate-more t {u} e = run-more (propagateStep z) (propagateMeasure z) propagate-falls (λ s. none) t u e
+
+  pub propagate-stop : (t : Pending) {r : Option Board} → propagateStep z t ≡ stop r → propagateOn z t ≡ r
+  unfolding propagateOn
+  propagate-stop t {r} e = run-stop (propagateStep z) (propagateMeasure z) propagate-falls (λ s. none) t r e
+
+  pub propagate-less : (t : Pending) {u : Pending} → propagateStep z t ≡ more u → propagateMeasure z u < propagateMeasure z t
+  propagate-less t e = subst (Holds (λ u. propagateMeasure z u < propagateMeasure z t) (λ r. Unit {0})) e (propagate-falls t)
 
   -- ## Propagating narrows
 

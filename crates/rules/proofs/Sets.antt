@@ -3,10 +3,11 @@ use mathlib.Core.Path.{_≡_, refl, sym, ap, ap₂, subst, _∙_}
 use mathlib.Core.Logic.{_⊎_, inl, inr, _≢_}
 use mathlib.Core.Bool.{Bool, true, false, not, _&&_, _||_, true≢false, false≢true}
 use mathlib.Core.List.{List, [], _∷_, map, List·Memᴰ·head, List·Memᴰ·not-nil, List·Memᴰ·eq-of-singleton}
-use Prim.Native.Nat.{ℕ, zero, suc, _+_, _*_, _/_, _%_, _^_, _≤_, _<_}
+use Prim.Native.Nat.{ℕ, zero, suc, _+_, _*_, _/_, _%_, _^_, _≤_, _<_, min}
 use native.Mathlib.Nat.{zero-div, pow-suc, div-eq-of-lt, mul-assoc, mul-add, mul-zero, mul-one}
 use native.Mathlib.Numerals.{one-add}
 use native.Mathlib.Omega.{arith}
+use lib.Bits.{bitAnd, and-shr, and-step}
 use lib.Pow.{shr-shr, pow-pos, pow-mono, pow-lt}
 use lib.ListN.{length}
 use lib.Dec.{eqb, leb, ltb, eqb·suc-zero, eqb·zero-suc, eqb·suc-suc}
@@ -68,6 +69,19 @@ pub has-high : (s n c : ℕ) → s < 2 ^ n → n ≤ c → has s c ≡ false
 unfolding has
 has-high s n c h k = ne-eqb (bit s c) 1 (λ e. let z = bit-high s n c h k in omega arith)
 
+-- ## What two sets share
+
+both-bits : (a b : ℕ) → a ≤ 1 → b ≤ 1 → eqb (min a b) 1 ≡ eqb a 1 && eqb b 1
+both-bits a b h k = by-equal a 1
+    (λ e. let z : min a b ≡ b = omega arith in rw (z, eq-eqb a 1 e))
+    (λ e. rw (ne-eqb (min a b) 1 (λ q. omega arith), ne-eqb a 1 e))
+
+pub has-and : (a b c : ℕ) → has (bitAnd a b) c ≡ has a c && has b c
+unfolding has bit
+has-and a b c =
+    let both : bitAnd a b / 2 ^ c % 2 ≡ min (a / 2 ^ c % 2) (b / 2 ^ c % 2) = rw and-shr (omega (arith, and-step (a / 2 ^ c) (b / 2 ^ c))) in
+    ap (λ d. eqb d 1) both ∙ both-bits (a / 2 ^ c % 2) (b / 2 ^ c % 2) (omega arith) (omega arith)
+
 -- ## The set of what passes a test
 
 -- its digits, the lowest first: n of them from that of i on
@@ -127,7 +141,7 @@ setOf-has n p c e = by-test (ltb c n)
 
 -- ## A set is its members
 
-has-suc : (x c : ℕ) → has x (suc c) ≡ has (x / 2) c
+pub has-suc : (x c : ℕ) → has x (suc c) ≡ has (x / 2) c
 unfolding has
 has-suc x c = ap (λ v. eqb v 1) (bit-suc x c)
 
@@ -296,6 +310,12 @@ unfolding lost
 lost-none s t h f e = same-set 8 t s (let k = within-le t s f in omega arith) h
     (λ c l. same-test (has t c) (has s c) (f c)
     (λ p. by-test (has t c) (λ q. q) (λ q. clash (any-in (λ x. has s x && not (has t x)) palette (below 8 c l) (true-and p (ap not q))) e)))
+
+-- so it has lost a colour exactly if the two differ
+pub lost-differs : (s t : ℕ) → s < 256 → ((x : ℕ) → has t x ≡ true → has s x ≡ true) → lost s t ≡ not (eqb s t)
+lost-differs s t h f = same-test (lost s t) (not (eqb s t))
+    (λ e. let r = lost-out s t e in ap not (ne-eqb s t (λ q. clash (r .2) (ap (λ v. has v (r .0)) q ∙ r .3))))
+    (λ e. by-test (lost s t) (λ l. l) (λ l. absurd (eqb-false s t (not-true (eqb s t) e) (sym (lost-none s t h f l)))))
 
 -- a number that is not 0 has a member
 pub some-member : (n s : ℕ) → 0 < s → s < 2 ^ n → (x : ℕ) × (x < n) × (has s x ≡ true)
