@@ -6,6 +6,7 @@ pub mod Given
 pub mod Copies
 pub mod Loops
 pub mod Sets
+pub mod Counting
 pub mod Boards
 pub mod Squares
 pub mod Plain
@@ -18,8 +19,10 @@ pub mod Clues
 pub mod Lines
 pub mod Narrowing
 pub mod Propagation
+pub mod Neighbours
 pub mod Queues
 pub mod Probing
+pub mod Rounds
 pub mod Guesses
 pub mod Ends
 pub mod InOrder

@@ -1,7 +1,7 @@
 -- Laws of `keep`, `every`, `any`, `first`, `from` and `sum`, and of membership.
 use mathlib.Core.Path.{_≡_, refl, sym, ap, ap₂, subst, _∙_}
 use mathlib.Core.Logic.{_⊎_, inl, inr, _≢_}
-use mathlib.Core.Bool.{Bool, true, false, not, _&&_, _||_, true≢false, false≢true}
+use mathlib.Core.Bool.{Bool, true, false, not, _&&_, _||_, cond, true≢false, false≢true}
 use mathlib.Core.List.{List, [], _∷_, _++_, map, List·Memᴰ, List·Memᴰ·head, List·Memᴰ·tail, List·Memᴰ·cases-cons, List·Memᴰ·not-nil, List·Memᴰ·append-cases, append-assoc}
 use mathlib.Core.Option.{Option, none, some}
 use Prim.Native.Nat.{ℕ, zero, suc, _+_, _-_, _*_, _≤_, _<_}
@@ -39,6 +39,10 @@ module _ {A : Type 0} (p : A → Bool) where
   pub keep-few : (l : List A) → length (keep p l) ≤ length l
   keep-few [] = omega arith
   keep-few (x ∷ l) = let ih = keep-few l in on-test (λ r. length r ≤ suc (length l)) (p x) (λ e. omega arith) (λ e. omega arith)
+
+  pub keep-append : (l m : List A) → keep p (l ++ m) ≡ keep p l ++ keep p m
+  keep-append [] m = refl
+  keep-append (x ∷ l) m = let ih = keep-append l m in by-test (p x) (λ e. rw (e, keep) (ap (λ r. x ∷ r) ih)) (λ e. rw (e, keep) ih)
 
   pub any-out : (l : List A) → any p l ≡ true → (a : A) × In a l × (p a ≡ true)
   any-out [] e = absurd (false≢true e)
@@ -147,6 +151,14 @@ pub every-same : {A : Type 0} (p q : A → Bool) (l : List A) → ((a : A) → I
 every-same p q [] f = refl
 every-same p q (x ∷ l) f = ap₂ _&&_ (f x (List·Memᴰ·head refl)) (every-same p q l (λ a m. f a (List·Memᴰ·tail m)))
 
+pub keep-map : {A C : Type 0} (p : C → Bool) (f : A → C) (l : List A) → keep p (map f l) ≡ map f (keep (λ a. p (f a)) l)
+keep-map p f [] = refl
+keep-map p f (x ∷ l) = let ih = keep-map p f l in by-test (p (f x)) (λ e. rw (e, keep) (ap (λ r. f x ∷ r) ih)) (λ e. rw (e, keep) ih)
+
+pub keep-keep : {A : Type 0} (p q : A → Bool) (l : List A) → keep p (keep q l) ≡ keep (λ a. q a && p a) l
+keep-keep p q [] = refl
+keep-keep p q (x ∷ l) = let ih = keep-keep p q l in by-test (q x) (λ e. rw (e, keep) (by-test (p x) (λ f. rw (f, keep) (ap (λ r. x ∷ r) ih)) (λ f. rw (f, keep) ih))) (λ e. rw (e, keep) ih)
+
 -- ## Numbers
 
 pub length-from : (i n : ℕ) → length (from i n) ≡ n
@@ -200,6 +212,9 @@ module _ (p : ℕ → Bool) (i n : ℕ) where
 
   pub first-end : n ≤ i → first p (from i (n - i)) ≡ none
   first-end h = rw (from-end i n h)
+
+  pub keep-more : i < n → keep p (from i (n - i)) ≡ cond (p i) (i ∷ keep p (from (i + 1) (n - (i + 1)))) (keep p (from (i + 1) (n - (i + 1))))
+  keep-more h = rw (from-more i n h, keep) (by-test (p i) (λ e. rw e) (λ e. rw e))
 
 -- a list given number by number
 pub getD-given : {A : Type 0} (f : ℕ → A) (i n k : ℕ) (d : A) → k < n → getD (map f (from i n)) k d ≡ f (i + k)

@@ -1,20 +1,22 @@
 -- Narrowing: a board is below another when each cell's set is contained. Setting, removing and writing reduced lines narrow, and a board that has lost a colour is smaller.
 use mathlib.Core.Path.{_≡_, refl, sym, ap, ap₂, subst, _∙_}
 use mathlib.Core.Logic.{_≢_}
-use mathlib.Core.Bool.{true, false}
+use mathlib.Core.Bool.{Bool, true, false, cond}
 use mathlib.Core.List.{List, [], _∷_, map, List·Memᴰ·head, List·Memᴰ·tail}
-use Prim.Native.Nat.{ℕ, zero, suc, _≤_, _<_}
+use Prim.Native.Nat.{ℕ, zero, suc, _+_, _-_, _*_, _≤_, _<_}
+use native.Mathlib.Nat.{mul-suc}
 use native.Mathlib.Omega.{arith}
 use lib.ListN.{length, getD, set, length-set, List·getD-eq-default}
 use lib.Seq.{getD-set-same, getD-set-other, ext-getD}
 use lib.Dec.{leb}
 use borrow.Author.Tests.{leb-true, leb-false}
+use Rattle.rules.specs.Lists.{keep, from}
 use Rattle.rules.specs.Sets.{Colour, has, only, without, lost}
 use Rattle.rules.specs.Boards.{Board, Cell, at, put, remove, removeAll, size}
 use Rattle.rules.specs.Propagation.{write}
 pub use Rattle.rules.specs.Promises.{_⊑_}
 use Rattle.rules.proofs.Tests.{by-test, by-equal, clash}
-use Rattle.rules.proofs.Lists.{In}
+use Rattle.rules.proofs.Lists.{In, keep-more}
 use Rattle.rules.proofs.Distinct.{Distinct}
 use Rattle.rules.proofs.Sets.{has-none, only-one, without-sub, without-gone, within-le, within-lt, lost-out}
 use Rattle.rules.proofs.Lines.{Under}
@@ -84,6 +86,12 @@ unfolding removeAll
 removeAll-sub b c [] = ⊑-refl b
 removeAll-sub b c (x ∷ xs) = ⊑-trans (removeAll-sub (remove b c x) c xs) (remove-sub b c x)
 
+-- of the colours that pass a test, from colour i on, at a turn: colour i where it passes, and those after it
+pub removeAll-turn : (b : Board) (c : Cell) (t : Colour → Bool) (i n : ℕ) → i < n →
+    removeAll b c (keep t (from i (n - i))) ≡ removeAll (cond (t i) (remove b c i) b) c (keep t (from (i + 1) (n - (i + 1))))
+unfolding removeAll
+removeAll-turn b c t i n h = rw (keep-more t i n h) (by-test (t i) (λ e. rw e) (λ e. rw e))
+
 pub removeAll-other : (b : Board) (c : Cell) (xs : List Colour) (e : Cell) → e ≢ c → at (removeAll b c xs) e ≡ at b e
 unfolding removeAll remove
 removeAll-other b c [] e q = refl
@@ -133,6 +141,11 @@ removeAll-gone b c x xs h = by-test (has (at (removeAll (remove b c x) c xs) c) 
 
 pub tail-sub : {s t : ℕ} {a b : Board} → (s ∷ a) ⊑ (t ∷ b) → a ⊑ b
 tail-sub h = record { long = (let z = h .long in omega arith); each = λ c. h .each (suc c) }
+
+pub size-few : (m : ℕ) (b : Board) → ((c : Cell) → at b c ≤ m) → size b ≤ m * length b
+unfolding size
+size-few m [] f = omega arith
+size-few m (s ∷ b) f = let ih = size-few m b (λ c. f (suc c)) in omega (arith, f 0, mul-suc m (length b))
 
 pub sub-size : (a b : Board) → a ⊑ b → size a ≤ size b
 unfolding size

@@ -82,7 +82,7 @@ solving-in (p ∷ os) {o} m = go (p .1) refl m (λ k. solving-in os k)
     ]
 
 -- the cell that a colour is assumed in is solved at the start
-newly-fewer : (b e : Board) (c : Cell) (x : Colour) → c < length b → x < 8 → length (newly (put b c x) e) < length b
+pub newly-fewer : (b e : Board) (c : Cell) (x : Colour) → c < length b → x < 8 → length (newly (put b c x) e) < length b
 unfolding newly put
 newly-fewer b e c x h l =
     let a = put b c x in

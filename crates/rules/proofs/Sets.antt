@@ -298,6 +298,10 @@ empty-none s x e h p = go (colours s) (eqb-true (length (colours s)) 0 e) (in-me
     go [] q m = List·Memᴰ·not-nil m
     go (y ∷ l) q m = omega arith
 
+pub none-empty : empty 0 ≡ true
+unfolding empty members has bit
+none-empty = refl
+
 -- a set that has lost a colour, and the colour
 pub lost-out : (s t : ℕ) → lost s t ≡ true → (x : ℕ) × (x < 8) × (has s x ≡ true) × (has t x ≡ false)
 unfolding lost
@@ -322,6 +326,22 @@ pub some-member : (n s : ℕ) → 0 < s → s < 2 ^ n → (x : ℕ) × (x < n) �
 some-member n s h k = by-test (any (has s) (from 0 n))
     (λ e. let r = any-out (has s) (from 0 n) e in let l = from-low 0 n (r .1) in (r .0, omega arith, r .2))
     (λ e. absurd (let z : s ≡ 0 = same-set n s 0 k (pow-pos n) (λ c l. by-test (has s c) (λ p. clash (any-in (has s) (from 0 n) (below n c l) p) e) (λ p. p ∙ sym (has-none c))) in omega arith))
+
+-- a byte that is not 0 has a first colour, and is not empty
+pub colours-some : (s : ℕ) → s < 256 → s ≢ 0 → (x : ℕ) × (xs : List ℕ) × (colours s ≡ x ∷ xs)
+colours-some s h n = let m = some-member 8 s (omega arith) h in go (colours s) refl (in-members 8 s (m .0) (m .1) (m .2))
+  where
+    go : (l : List ℕ) {x : ℕ} → colours s ≡ l → In x l → (x : ℕ) × (xs : List ℕ) × (colours s ≡ x ∷ xs)
+    go [] e k = absurd (List·Memᴰ·not-nil k)
+    go (x ∷ xs) e k = (x, xs, e)
+
+pub some-not-empty : (s : ℕ) → s < 256 → s ≢ 0 → empty s ≡ false
+unfolding empty
+some-not-empty s h n = let m = colours-some s h n in ne-eqb (length (colours s)) 0 (λ e. let k = ap length (m .2) in omega arith)
+
+pub colours-none : colours 0 ≡ []
+unfolding members has bit
+colours-none = refl
 
 -- a member's set is not 0
 pub member-pos : (s x : ℕ) → has s x ≡ true → 0 < s

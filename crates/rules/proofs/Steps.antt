@@ -71,7 +71,7 @@ abbrev pub runOf : Probed → Run
 runOf (contradiction s) = s
 runOf (probed b ns s) = s
 
-assumed-steps : (c : Cell) (xs : List Colour) (s : Run) → steps (assumedAll c xs s) ≡ length xs + steps s
+pub assumed-steps : (c : Cell) (xs : List Colour) (s : Run) → steps (assumedAll c xs s) ≡ length xs + steps s
 unfolding assumedAll
 assumed-steps c [] s = omega arith
 assumed-steps c (x ∷ xs) s = let ih = assumed-steps c xs (event (assumed c x) s) in omega arith

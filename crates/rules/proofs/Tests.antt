@@ -60,6 +60,18 @@ or-false true false e = absurd (true≢false e)
 or-false false true e = absurd (true≢false e)
 or-false false false e = (refl, refl)
 
+pub and-all : (u : Bool) → u && true ≡ u
+and-all true = refl
+and-all false = refl
+
+pub and-none : (u : Bool) → u && false ≡ false
+and-none true = refl
+and-none false = refl
+
+pub or-none : (u : Bool) → u || false ≡ u
+or-none true = refl
+or-none false = refl
+
 -- two tests that pass together are equal
 pub same-test : (u v : Bool) → (u ≡ true → v ≡ true) → (v ≡ true → u ≡ true) → u ≡ v
 same-test true v f g = sym (f refl)
