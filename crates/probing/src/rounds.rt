@@ -1,10 +1,10 @@
 // Runs of probing.
-use boards::Board;
-use cells::CellNo;
-use cells::Colour;
 use crate::neighbours::push_both;
 use crate::probe::probe;
 use crate::start::unsolved_cells;
+use boards::Board;
+use cells::CellNo;
+use cells::Colour;
 use notes::Notes;
 use queues::Queue;
 ghost use mathlib.Core.Path.{_≡_};
@@ -41,7 +41,11 @@ pub fn propagate_point(board: Board, c: CellNo, queue: Queue, masks: &[u32]) -> 
 {
     let p = board.propagate(c, masks);
     if !p.ok {
-        return Pushed { ok: false, board, queue };
+        return Pushed {
+            ok: false,
+            board,
+            queue,
+        };
     }
     let end = p.board;
     Pushed {
@@ -80,7 +84,11 @@ fn cut(board: Board, c: CellNo, bad: u8, queue: Queue, masks: &[u32]) -> Pushed
 {
     let b = remove_all(board, c, bad);
     if b.cell(c) == 0 {
-        return Pushed { ok: false, board, queue };
+        return Pushed {
+            ok: false,
+            board,
+            queue,
+        };
     }
     propagate_point(b, c, queue, masks)
 }
@@ -96,13 +104,23 @@ pub fn run(board: Board, queue: Queue, masks: &[u32]) -> Probed
     let mut notes = Notes::none(n);
     let mut steps: u64 = 0;
     if b.is_solved_full() {
-        return Probed { ok: true, board: b, notes, steps };
+        return Probed {
+            ok: true,
+            board: b,
+            notes,
+            steps,
+        };
     }
     loop {
         let p = q.pop();
         q = p.queue;
         if !p.found {
-            return Probed { ok: true, board: b, notes, steps };
+            return Probed {
+                ok: true,
+                board: b,
+                notes,
+                steps,
+            };
         }
         let c = p.cell;
         let impact = probe(b, c, masks);
@@ -113,13 +131,23 @@ pub fn run(board: Board, queue: Queue, masks: &[u32]) -> Probed
         } else {
             let r = cut(b, c, impact.bad, q, masks);
             if !r.ok {
-                return Probed { ok: false, board: b, notes, steps };
+                return Probed {
+                    ok: false,
+                    board: b,
+                    notes,
+                    steps,
+                };
             }
             b = r.board;
             q = r.queue;
             notes = Notes::none(n);
             if b.is_solved_full() {
-                return Probed { ok: true, board: b, notes, steps };
+                return Probed {
+                    ok: true,
+                    board: b,
+                    notes,
+                    steps,
+                };
             }
         }
     }
