@@ -7,6 +7,7 @@ mod single;
 pub use layout::LineRead;
 pub use layout::all_proper;
 pub use layout::read_line;
+pub use layout::within;
 pub use machine::Machine;
 pub use machine::machine_of;
 pub use reduction::reduce_by;

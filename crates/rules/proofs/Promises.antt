@@ -127,6 +127,14 @@ module _ (z : Puzzle) (l : Limits) (k : ℕ) (few : k ≤ 7) (given : Board) (p 
           (λ e. answered-promise b d (search z l (suc mostDepth) 0 b (choose b ns) fresh)
           (search-keeps-promise z l k few (suc mostDepth) 0 (omega arith) b (choose b ns) fresh (d .playable) e (omega arith) (omega arith)))
 
+  -- a dead end has stored nothing: what is stored fits, and nothing does
+  pub dead-stores-none : (s : Run) → Promise z l k given (ofOutcome given (deadEnd s)) → s .stored ≡ []
+  dead-stores-none s h = go (s .stored) (λ g m. h .dead-end refl g (h .stored-fit g m))
+    where
+      go : (l : List Board) → ((g : Board) → In g l → ⊥) → l ≡ []
+      go [] f = refl
+      go (g ∷ l) f = absurd (f g (List·Memᴰ·head refl))
+
 -- ## Bytes
 
 -- grids written one after the other are the first parts of the list
@@ -144,6 +152,9 @@ module _ (a : Asked) (clues : List Clue) (y : Accepted a clues) where
   abbrev z : Puzzle
   z = puzzleOf a clues
 
+  given : Playable z (a .k) (a .cells)
+  given = given-playable z (a .k) (a .cells) (accepted-sized a clues y) (accepted-proper a clues y)
+
   -- its bytes say what the rules have come to
   result-same : (o : Outcome) → Promise z (limitsOf a) (a .k) (a .cells) (ofOutcome (a .cells) o) → ofAnswer a (answerOf a o) ≡ ofOutcome (a .cells) o
   unfolding parts written
@@ -153,16 +164,11 @@ module _ (a : Asked) (clues : List Clue) (y : Accepted a clues) where
   result-same (deadEnd s) h = ap (λ (l : List Board). record { number = 3; board = a .cells; grids = l; steps = steps s; limit = s .limit })
       (ap (λ l. parts (a .w * a .h) (length l) (a .list)) nothing ∙ sym nothing)
     where
-      go : (l : List Board) → ((g : Board) → In g l → ⊥) → l ≡ []
-      go [] f = refl
-      go (g ∷ l) f = absurd (f g (List·Memᴰ·head refl))
-
       nothing : s .stored ≡ []
-      nothing = go (s .stored) (λ g m. h .dead-end refl g (h .stored-fit g m))
+      nothing = dead-stores-none z (limitsOf a) (a .k) (let h = accepted-colours a clues y in omega arith) (a .cells) given s h
 
   searched-promise : Promise z (limitsOf a) (a .k) (a .cells) (ofAnswer a (searched a clues))
   searched-promise =
-      let given : Playable z (a .k) (a .cells) = given-playable z (a .k) (a .cells) (accepted-sized a clues y) (accepted-proper a clues y) in
       let run = run-promise z (limitsOf a) (a .k) (let h = accepted-colours a clues y in omega arith) (a .cells) given in
       subst (Promise z (limitsOf a) (a .k) (a .cells)) (sym (result-same (wholeRun z (limitsOf a) (a .cells)) run)) run
 

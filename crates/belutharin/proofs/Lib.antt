@@ -1,0 +1,4 @@
+-- Laws for the proofs of this crate.
+pub mod Refusing
+pub mod Answering
+pub mod Accepting
