@@ -193,7 +193,7 @@ fn deep() -> Vec<Puzzle> {
             let most_grids = if side < 7 { 128 } else { 4 };
             for most_depth in [side / 2, 15] {
                 let puzzle = puzzle.clone();
-                cases.push(puzzle.with_limits(most_grids, most_depth, 10_000));
+                cases.push(puzzle.with_limits(most_grids, most_depth, 1_500));
             }
         }
     }
@@ -211,8 +211,8 @@ fn long(random: &mut Random) -> Vec<Puzzle> {
                 random.between(1, 3),
             )
         });
-        let puzzle = puzzle.with_limits(10, 15, 30_000);
-        if puzzle.run(mended::solve).answer.steps > 20_000 {
+        let puzzle = puzzle.with_limits(10, 15, 4_000);
+        if puzzle.run(mended::solve).answer.steps > 3_000 {
             cases.push(puzzle);
         }
     }
