@@ -16,7 +16,6 @@ use Rattle.boards.specs.Board.{boardOf}
 use Rattle.cells.specs.declared.CellNo.{CellNo}
 use Rattle.cells.specs.declared.Colour.{Colour}
 use Rattle.runs.specs.declared.limits.Limits.{Limits}
-use Rattle.runs.specs.declared.limits.Stats.{Stats}
 use Rattle.runs.specs.Stats.{limitMet, noted}
 use Rattle.runs.specs.Matches.{limitsOf}
 use Rattle.guesses.specs.declared.waiting.Guesses.{Guesses}
@@ -30,31 +29,39 @@ use Rattle.backtracking.specs.declared.node.Turned.{Turned}
 use Rattle.backtracking.specs.declared.node.OwnProbing.{OwnProbing}
 use Rattle.backtracking.specs.declared.node.Begun.{Begun}
 use Rattle.backtracking.proofs.Boarding.{size-same}
-use Rattle.backtracking.proofs.Asking.{met-none, asked, noted-is}
+use Rattle.backtracking.proofs.Asking.{limit-none, asked, noted-is}
 use Rattle.backtracking.proofs.Owning.{after-own}
 use Rattle.backtracking.proofs.Refilling.{stopped, again}
 
+-- a guess is passed over, or to be tried
+abbrev pub passes : CellNo → Colour → Turned → Begun
+passes c x u = record { tries = false; cell = c; colour = x; turned = u }
+
+abbrev pub begins : CellNo → Colour → Turned → Begun
+begins c x u = record { tries = true; cell = c; colour = x; turned = u }
+
+pub begins-as : {t : Node} {masks list out : List ℕ} {l : Limits} {d : ℕ} {r u : Begun} → r ≡ u → Begins t masks list l d u out → Begins t masks list l d r out
+begins-as {t} {masks} {list} {out} {l} {d} e = subst (λ v. Begins t masks list l d v out) (sym e)
+
 module _ (t : Node) (masks list : List ℕ) (l : Limits) (d : ℕ) (few : t .stats .grids ≤ l .grids) (cell : CellNo) (colour : Colour) where
-  -- the node has turned, or the guess is to be tried
   abbrev turns : Turned → Begun
-  turns u = record { tries = false; cell = cell; colour = colour; turned = u }
+  turns = passes cell colour
 
   abbrev tried : Turned → Begun
-  tried u = record { tries = true; cell = cell; colour = colour; turned = u }
+  tried = begins cell colour
 
   -- a limit is met
-  pub begins-met : (k : ℕ) (s₁ : Stats) → t .guesses .head ≤ 1024 → k ≡ limitMet (t .stats) l d → (k ≡ 0 → ⊥) → s₁ ≡ noted k (t .stats) →
-      Begins t masks list l d (turns (stopped t s₁)) list
-  begins-met k s₁ h e f q = record {
+  pub begins-met : (k : ℕ) → t .guesses .head ≤ 1024 → k ≡ limitMet (t .stats) l d → (k ≡ 0 → ⊥) → Begins t masks list l d (turns (stopped t (noted k (t .stats)))) list
+  begins-met k h e f = record {
     size = size-same (t .board);
-    few = subst (λ v. v .grids ≤ l .grids) (sym q) few;
+    few = few;
     within = h;
     same = λ z. absurd (false≢true z);
     to = λ g b c x gs p made s is. on-number
-        (BeforeTo g (turns (stopped t s₁)) list)
+        (BeforeTo g (turns (stopped t (noted k (t .stats)))) list)
         (met (g .puzzle) (limitsOf l) s d) {f = λ n. turned (stop (over (left notDead b (note (suc n) s))))}
         (λ z. absurd (f (e ∙ asked g l d (is .run) ∙ z)))
-        (λ n z. (refl, (refl, (refl, is .board, noted-is g l d (is .run) k n s₁ e z q))));
+        (λ n z. (refl, (refl, (refl, is .board, noted-is g l d (is .run) k n e z))));
   }
 
   module _ (rest : Guesses) (next-is : guess (cell .0) (colour .0) ≡ next (t .guesses)) (after-next : Rest (t .guesses) rest) (unmet : limitMet (t .stats) l d ≡ 0) where
@@ -106,7 +113,7 @@ module _ (t : Node) (masks list : List ℕ) (l : Limits) (d : ℕ) (few : t .sta
       size = size-same (t .board);
       few = few;
       within = after-next .within;
-      same = λ _. (refl, refl, refl, i, j, met-none (t .stats) l d unmet .0, met-none (t .stats) l d unmet .1);
+      same = λ _. (refl, refl, refl, i, j, limit-none (t .stats) l d unmet .0, limit-none (t .stats) l d unmet .1);
       to = λ g b c x gs p made s is. let n = taken c x gs (is .waiting) in
           let r = tried (again t rest) in
           steps r list g b c x gs p made s (is .run) (on-test (BeforeTo g r list) (has (at b c) x)
@@ -148,7 +155,7 @@ module _ (t : Node) (masks list : List ℕ) (l : Limits) (d : ℕ) (few : t .sta
           (λ _. subst (λ v. BeforeTo g (turns (after-own t rest o)) out (turned (loneGuess (g .puzzle) b gs v made s))) (sym q ∙ is .probed) (
             refl,
             go g gs made (n .waiting) (is .made) (ownProbing (g .puzzle) b s)
-                (subst (λ b. OwnTo g o out (ownProbing (g .puzzle) b s)) (is .board) (w .to g s (is .run) (met-none (t .stats) l d unmet .0))),
+                (subst (λ b. OwnTo g o out (ownProbing (g .puzzle) b s)) (is .board) (w .to g s (is .run) (limit-none (t .stats) l d unmet .0))),
           ))
           (λ e. clash (alone true (is .board) (n .cell-is) k) e))
           (λ e. clash (reads true (is .board) (n .cell-is) (n .colour-is) h) e));

@@ -40,6 +40,13 @@ size-cells {a} {b} e = ap (λ n. n * b .h) (e .wide) ∙ ap (λ n. a .w * n) (e 
 pub of-size : {a b : Board} (P : Board → Type 0) → SameSize a b → ((cells : List ℕ) → P (withCells a cells)) → P b
 of-size {a} {b} P e f = subst P (λ i. record { w = sym (e .wide) i; h = sym (e .high) i; cells = b .cells }) (f (b .cells))
 
+-- what holds at a board's size holds at that of a board as large
+pub at-size : {a b : Board} (P : ℕ → ℕ → Type 0) → SameSize a b → P (b .w) (b .h) → P (a .w) (a .h)
+at-size {a} {b} P e p = subst (λ u. P u (a .h)) (e .wide) (subst (λ v. P (b .w) v) (e .high) p)
+
+pub size-at : {a b : Board} (P : ℕ → ℕ → Type 0) → SameSize a b → P (a .w) (a .h) → P (b .w) (b .h)
+size-at {a} {b} P e p = subst (λ u. P u (b .h)) (sym (e .wide)) (subst (λ v. P (a .w) v) (sym (e .high)) p)
+
 -- a search may go on with another board, list and counts
 pub ready-on : {a b : Board} {masks list out : List ℕ} {l : Limits} {s t : Stats} → Ready a masks list l s → SameSize a b → length out ≡ length list → t .grids ≤ l .grids → Ready b masks out l t
 ready-on {a} {b} {masks} {list} {out} {l} {s} {t} r e m k = of-size (λ d. Ready d masks out l t) e

@@ -2,7 +2,7 @@
 use mathlib.Core.Path.{_≡_, refl, sym, ap, subst, _∙_}
 use mathlib.Core.Bool.{Bool, true, false}
 use mathlib.Core.List.{List, _∷_}
-use Prim.Native.Nat.{ℕ, _*_, _^_, _≤_, _<_}
+use Prim.Native.Nat.{ℕ, suc, _*_, _^_, _≤_, _<_}
 use native.Mathlib.Omega.{arith}
 use lib.ListN.{length, getD}
 use Rattle.rules.specs.Sets.{has, empty, colours, without}
@@ -10,6 +10,7 @@ use Rattle.rules.specs.Boards as Rules
 use Rattle.rules.specs.Boards.{at, remove}
 use Rattle.rules.specs.Probing.{Run}
 use Rattle.rules.specs.Guesses.{Guess, guess}
+use Rattle.rules.specs.Answers.{mostColours}
 use Rattle.rules.specs.Search.{End, dead, notDead, others}
 use Rattle.rules.proofs.Tests.{on-test, clash}
 use Rattle.rules.proofs.Sets.{member, member-low}
@@ -31,6 +32,10 @@ use Rattle.backtracking.specs.declared.node.Turned.{Turned}
 use Rattle.backtracking.specs.declared.node.OwnProbing.{OwnProbing}
 use Rattle.backtracking.proofs.Boarding.{size-same, size-more, size-with, size-cells, of-size, cell-at, remove-with, empty-zero, not-zero}
 use Rattle.backtracking.proofs.Owning.{after-own, OwnBelow, own-below}
+
+pub ends-as : {t : Node} {c x : ℕ} {isdead : Bool} {masks list out : List ℕ} {l : Limits} {s : Stats} {r u : Turned} → r ≡ u →
+    Ends t c x isdead masks list l s u out → Ends t c x isdead masks list l s r out
+ends-as {t} {c} {x} {isdead} {masks} {list} {out} {l} {s} e = subst (λ v. Ends t c x isdead masks list l s v out) (sym e)
 
 module _ (t : Node) (c x : ℕ) (isdead : Bool) (masks list : List ℕ) (l : Limits) (s : Stats) where
   -- the node with the guess made, and the node whose cell has lost its last colour
@@ -94,9 +99,9 @@ module _ (t : Node) (c x : ℕ) (isdead : Bool) (masks list : List ℕ) (l : Lim
             TurnTo g (after-own t rest o) out (afterOwn (λ e. others c x (colours (at e c)) gs) those v)
         turn g b gs those i j fine room (ends e f u) (k, q, r, m) below = (k, (q, r, m))
         turn g b gs those i j fine room (goes e u) (k, q, m) below =
-            let small : at e c < 2 ^ 4 = sub-low c (2 ^ 4) (⊑-trans below (remove-sub b c x)) (fine .low c) in
-            let fits = Room.waiting-1024 3 (t .board .w * t .board .h) (others c x (colours (at e c)) gs) (omega arith) (few-cells (t .board) sized)
-            (Room.others-waiting 3 (t .board .w * t .board .h) c x (colours (at e c)) gs low (λ y n. member-low 4 (at e c) y small (member 8 (at e c) n .1)) room) in
+            let small : at e c < 2 ^ suc mostColours = sub-low c (2 ^ suc mostColours) (⊑-trans below (remove-sub b c x)) (fine .low c) in
+            let fits = Room.waiting-1024 mostColours (t .board .w * t .board .h) (others c x (colours (at e c)) gs) (omega arith) (few-cells (t .board) sized)
+            (Room.others-waiting mostColours (t .board .w * t .board .h) c x (colours (at e c)) gs low (λ y n. member-low (suc mostColours) (at e c) y small (member 8 (at e c) n .1)) room) in
             let same : others c x (colours set) (guessesOf (t .guesses)) ≡ others c x (colours (at e c)) gs =
             ap (λ v. others c x (colours v) (guessesOf (t .guesses))) (read-at q) ∙ ap (others c x (colours (at e c))) (i .guesses) in (
               k,

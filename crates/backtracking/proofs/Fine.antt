@@ -13,7 +13,9 @@ use Rattle.rules.specs.Boards.{Board, Cell, at, put, remove, solved}
 use Rattle.rules.specs.Propagation.{propagate, check}
 use Rattle.rules.specs.Probing.{Run, steps, event, guessed, CellQueue, startQueue, Notes, Probed, contradiction, probed, probe}
 use Rattle.rules.specs.Guesses.{Guess, guess, choose}
-use Rattle.rules.specs.Search.{Limits, dead, notDead, Tried, tried, Node, node, Spent, spent, Pass, over, ranOut, others, anyClosed, firstUnsolved, met, probedNode, lone, afterGuess, passStep, passMeasure, passUnended, pass, search, tryGuess}
+use Rattle.rules.specs.Answers.{mostColours}
+use Rattle.rules.specs.Search.{Limits, dead, notDead, Tried, tried, Node, node, Spent, spent, Pass, over, ranOut, others, anyClosed, firstUnsolved, met}
+use Rattle.rules.specs.Search.{probedNode, lone, afterGuess, passStep, passMeasure, passUnended, pass, search, tryGuess}
 use Rattle.rules.specs.Promises.{mostProbing}
 use Rattle.rules.proofs.Tests.{on-test, on-number}
 use Rattle.rules.proofs.Lists.{In}
@@ -38,8 +40,8 @@ module _ {w h : ℕ} {masks : List ℕ} (g : Setting w h masks) where
   pub fine-long : {b : Board} → Fine g b → length b ≡ w * h
   fine-long p = p .sized ∙ ap₂ (λ (u v : ℕ). u * v) (g .table .wide) (g .table .high)
 
-  colour-low : {b : Board} → Fine g b → (c : Cell) (x : Colour) → In x (colours (at b c)) → x < 4
-  colour-low {b} p c x m = member-low 4 (at b c) x (p .low c) (member 8 (at b c) m .1)
+  colour-low : {b : Board} → Fine g b → (c : Cell) (x : Colour) → In x (colours (at b c)) → x < suc mostColours
+  colour-low {b} p c x m = member-low (suc mostColours) (at b c) x (p .low c) (member 8 (at b c) m .1)
 
   -- ## A node
 
@@ -51,7 +53,7 @@ module _ {w h : ℕ} {masks : List ℕ} (g : Setting w h masks) where
     TurnFine : Turn Node Pass → Type 0
     TurnFine = Holds (NodeFine g) PassFine
 
-    probed-fine : (next : Board → List Guess) (made : List Guess) (b : Board) → ((a : Board) → Fine g a → Few g (next a)) → (r : Probed) → ProbedSound (g .puzzle) 3 b r →
+    probed-fine : (next : Board → List Guess) (made : List Guess) (b : Board) → ((a : Board) → Fine g a → Few g (next a)) → (r : Probed) → ProbedSound (g .puzzle) mostColours b r →
         TurnFine (probedNode (g .puzzle) l try d next made b r)
     unfolding TurnFine
     probed-fine next made b f (contradiction t) i = tt
@@ -67,18 +69,19 @@ module _ {w h : ℕ} {masks : List ℕ} (g : Setting w h masks) where
         (λ m _. tt)
       where
         rest : Few g gs
-        rest = taken-waiting 3 (w * h) (guess c x) gs (i .1)
+        rest = taken-waiting mostColours (w * h) (guess c x) gs (i .1)
 
         alone : (q : Bool) → TurnFine (lone (g .puzzle) l try d b gs q made s)
         alone true = (i .0, rest)
-        alone false = probed-fine (λ a. gs) made b (λ a _. rest) (probe (g .puzzle) b (startQueue (g .puzzle) b) s) (probe-sound (g .puzzle) 3 (omega arith) b (startQueue (g .puzzle) b) s (i .0))
+        alone false = probed-fine (λ a. gs) made b (λ a _. rest) (probe (g .puzzle) b (startQueue (g .puzzle) b) s) (probe-sound (g .puzzle) mostColours (omega arith) b (startQueue (g .puzzle) b) s (i .0))
 
         after : has (at b c) x ≡ true → (t : Tried) → TurnFine (afterGuess (g .puzzle) l try d b c x gs p made t)
         after k (tried notDead t) = (i .0, rest)
         after k (tried dead t) = let a = remove b c x in on-test TurnFine (empty (at a c)) (λ _. tt)
             (λ e. probed-fine (λ v. others c x (colours (at v c)) gs) made a
-            (λ v q. others-waiting 3 (w * h) c x (colours (at v c)) gs (let u = on-board b c x k in let n = fine-long (i .0) in omega arith) (colour-low q c) rest)
-            (probe (g .puzzle) a (startQueue (g .puzzle) a) t) (probe-sound (g .puzzle) 3 (omega arith) a (startQueue (g .puzzle) a) t (playable-remove (g .puzzle) 3 (omega arith) c x (i .0) e)))
+            (λ v q. others-waiting mostColours (w * h) c x (colours (at v c)) gs (let u = on-board b c x k in let n = fine-long (i .0) in omega arith) (colour-low q c) rest)
+            (probe (g .puzzle) a (startQueue (g .puzzle) a) t)
+            (probe-sound (g .puzzle) mostColours (omega arith) a (startQueue (g .puzzle) a) t (playable-remove (g .puzzle) mostColours (omega arith) c x (i .0) e)))
 
     pub pass-fine : (n : Node) → NodeFine g n → PassFine (pass (g .puzzle) l try d n)
     unfolding pass
@@ -88,7 +91,7 @@ module _ {w h : ℕ} {masks : List ℕ} (g : Setting w h masks) where
   pub refill-fine : (l : Limits) (d : ℕ) (t : Spent) → SpentFine g t → Holds (NodeFine g) (λ e. Unit {0}) (refilled (g .puzzle) l d t)
   refill-fine l d (spent b p made s) i = on-number (Holds (NodeFine g) (λ e. Unit {0})) (met (g .puzzle) l s d)
       (λ _. on-test (Holds (NodeFine g) (λ e. Unit {0})) (solved b || anyClosed b made) (λ _. tt)
-      (λ _. (i, subst (λ n. Room.Waiting 3 n (firstUnsolved b)) (fine-long i) (firstUnsolved-waiting 3 b (i .low)))))
+      (λ _. (i, subst (λ n. Room.Waiting mostColours n (firstUnsolved b)) (fine-long i) (firstUnsolved-waiting mostColours b (i .low)))))
       (λ m _. tt)
 
   -- ## A guess
@@ -104,7 +107,7 @@ module _ {w h : ℕ} {masks : List ℕ} (g : Setting w h masks) where
       go : (r : Option Board) → propagate (g .puzzle) (put b c x) c ≡ r → SetFine (afterSet (g .puzzle) (put b c x) c (startQueue (g .puzzle) b) (event (guessed c x) s) r)
       go none e = tt
       go (some a) e =
-          let f = propagate-deduced (g .puzzle) 3 (omega arith) c (playable-put (g .puzzle) 3 (omega arith) c x p k) e .playable in
+          let f = propagate-deduced (g .puzzle) mostColours (omega arith) c (playable-put (g .puzzle) mostColours (omega arith) c x p k) e .playable in
           on-test SetFine (solved a) (λ _. on-test SetFine (check (g .puzzle) a) (λ _. f) (λ _. tt)) (λ _. f)
 
   abbrev pub ProbeFine : Went (Board × Notes) → Type 0
@@ -113,31 +116,36 @@ module _ {w h : ℕ} {masks : List ℕ} (g : Setting w h masks) where
 
   pub probe-fine : (b : Board) (q : CellQueue) (s : Run) → Fine g b → ProbeFine (probeGuess (g .puzzle) b q s)
   unfolding probeGuess
-  probe-fine b q s p = go (probe (g .puzzle) b q s) refl (probe-sound (g .puzzle) 3 (omega arith) b q s p)
+  probe-fine b q s p = go (probe (g .puzzle) b q s) refl (probe-sound (g .puzzle) mostColours (omega arith) b q s p)
     where
-      go : (r : Probed) → probe (g .puzzle) b q s ≡ r → ProbedSound (g .puzzle) 3 b r → ProbeFine (afterProbe (g .puzzle) r)
+      go : (r : Probed) → probe (g .puzzle) b q s ≡ r → ProbedSound (g .puzzle) mostColours b r → ProbeFine (afterProbe (g .puzzle) r)
       go (contradiction t) e i = tt
       go (probed a ns t) e i =
-          let f : Fine g a × Few g (choose a ns) = (i .playable, subst (λ n. Room.Waiting 3 n (choose a ns)) (fine-long p) (chosen-waiting (g .puzzle) 3 b q s (p .low) e)) in
+          let f : Fine g a × Few g (choose a ns) = (i .playable, subst (λ n. Room.Waiting mostColours n (choose a ns)) (fine-long p) (chosen-waiting (g .puzzle) mostColours b q s (p .low) e)) in
           on-test ProbeFine (solved a) (λ _. on-test ProbeFine (check (g .puzzle) a) (λ _. f) (λ _. tt)) (λ _. f)
 
   -- ## What a guess comes to
+
+  -- the most steps that a run has made after a guess
+  abbrev pub mostSteps : Given → ℕ → ℕ
+  mostSteps l left = l .budget + suc (left - 1) * longest (g .puzzle) mostColours
 
   module _ (l : Given) (left : ℕ) (some-left : 1 ≤ left) (within : left ≤ l .depth + 1) where
     pub depth-down : depthOf l (left - 1) ≡ suc (depthOf l left)
     depth-down = omega arith
 
     pub try-settled : (b : Board) (c : Cell) (x : Colour) (s : Run) → Fine g b → has (at b c) x ≡ true → length (s .stored) < l .grids → steps s < l .budget →
-        TriedSettled (g .puzzle) (limitsOf l) (l .budget + suc (left - 1) * longest (g .puzzle) 3) (put b c x) s (tryAt (g .puzzle) l (left - 1) b c x s)
+        TriedSettled (g .puzzle) (limitsOf l) (mostSteps l left) (put b c x) s (tryAt (g .puzzle) l (left - 1) b c x s)
     try-settled b c x s p k r n =
-        subst (λ e. TriedSettled (g .puzzle) (limitsOf l) (l .budget + suc (left - 1) * longest (g .puzzle) 3) (put b c x) s (tryGuess (g .puzzle) (limitsOf l) (λ a hs t. search (g .puzzle) (limitsOf l) (left - 1) e a hs t) e b c x s))
-        (sym depth-down) (try-keeps-promise (g .puzzle) (limitsOf l) 3 (omega arith) (left - 1) (depthOf l left) (omega arith) b c x s p k r n)
+        subst (λ e. TriedSettled (g .puzzle) (limitsOf l) (mostSteps l left) (put b c x) s (tryGuess (g .puzzle) (limitsOf l) (λ a hs t. search (g .puzzle) (limitsOf l) (left - 1) e a hs t) e b c x s))
+        (sym depth-down) (try-keeps-promise (g .puzzle) (limitsOf l) mostColours (omega arith) (left - 1) (depthOf l left) (omega arith) b c x s p k r n)
 
     -- the steps stay few
-    pub steps-few : l .depth ≤ 15 → l .budget ≤ 1_000_000_000 → w * h ≤ 256 → (n : ℕ) → n ≤ l .budget + suc (left - 1) * longest (g .puzzle) 3 → n ≤ 2 ^ 40
+    pub steps-few : l .depth ≤ 15 → l .budget ≤ 1_000_000_000 → w * h ≤ 256 → (n : ℕ) → n ≤ mostSteps l left → n ≤ 2 ^ 40
     unfolding longest
     steps-few a b c n e =
         let size : g .puzzle .width * g .puzzle .height ≡ w * h = ap₂ (λ (u v : ℕ). u * v) (g .table .wide) (g .table .high) in
-        let m : mostProbing 3 (g .puzzle .width * g .puzzle .height) ≤ 787_456 = mostProbing-few 3 3 (g .puzzle .width * g .puzzle .height) 256 (omega arith) (omega arith) in
-        let k : suc (left - 1) * mostProbing 3 (g .puzzle .width * g .puzzle .height) ≤ 16 * 787_456 = mul-le-mul {n₁ = suc (left - 1)} {n₂ = 16} (omega arith) m in
+        let m : mostProbing mostColours (g .puzzle .width * g .puzzle .height) ≤ mostProbing mostColours 256 =
+        mostProbing-few mostColours mostColours (g .puzzle .width * g .puzzle .height) 256 (omega arith) (omega arith) in
+        let k : suc (left - 1) * mostProbing mostColours (g .puzzle .width * g .puzzle .height) ≤ 16 * mostProbing mostColours 256 = mul-le-mul {n₁ = suc (left - 1)} {n₂ = 16} (omega arith) m in
         omega arith

@@ -40,7 +40,8 @@ pub kept-with : {w h : ℕ} {masks : List ℕ} (g : Setting w h masks) {A : Type
     WentTo g (λ _. Unit {0}) dead s out (kept (g .puzzle) b (tt {0}) t) → Is a → WentTo g Is dead s out (kept (g .puzzle) b a t)
 kept-with g {A} Is dead s out b a t k i = go (solved b) (check (g .puzzle) b) k
   where
-    go : (u v : Bool) → WentTo g {A = Unit {0}} (λ _. Unit {0}) dead s out (elim u as (λ _. Went (Unit {0})) [ true ↦ elim v as (λ _. Went (Unit {0})) [ true ↦ went (tt {0}) (store b t) | false ↦ died t ] | false ↦ went (tt {0}) t ]) →
+    go : (u v : Bool) →
+        WentTo g {A = Unit {0}} (λ _. Unit {0}) dead s out (elim u as (λ _. Went (Unit {0})) [ true ↦ elim v as (λ _. Went (Unit {0})) [ true ↦ went (tt {0}) (store b t) | false ↦ died t ] | false ↦ went (tt {0}) t ]) →
         WentTo g {A = A} Is dead s out (elim u as (λ _. Went A) [ true ↦ elim v as (λ _. Went A) [ true ↦ went a (store b t) | false ↦ died t ] | false ↦ went a t ])
     go true true (d, u, m) = (d, i, m)
     go true false (d, m) = (d, m)

@@ -10,7 +10,8 @@ use Rattle.rules.specs.Boards.{Board, Cell, at, put, remove, solved, newly, Puz
 use Rattle.rules.specs.Propagation.{propagate, check}
 use Rattle.rules.specs.Probing.{guessed, Run, event, CellQueue, startQueue, pushBoth, Notes, Probed, contradiction, probed, probe}
 use Rattle.rules.specs.Guesses.{Guess, guess}
-use Rattle.rules.specs.Search.{Limits, End, dead, notDead, Left, left, Tried, tried, Node, node, Spent, spent, Pass, over, ranOut, note, store, others, anyClosed, firstUnsolved, met, probedNode, probeNode, lone, afterGuess, passStep, pass, again, spentStep, refill, afterPass, guessDeeper, guessProbed, guessAsk, guessSet, tryGuess}
+use Rattle.rules.specs.Search.{Limits, End, dead, notDead, Left, left, Tried, tried, Node, node, Spent, spent, Pass, over, ranOut, note, store, others, anyClosed, firstUnsolved, met}
+use Rattle.rules.specs.Search.{probedNode, probeNode, lone, afterGuess, passStep, pass, again, spentStep, refill, afterPass, guessDeeper, guessProbed, guessAsk, guessSet, tryGuess}
 use Rattle.rules.proofs.Ends.{refill-turn}
 use Rattle.backtracking.specs.Parts.{Went, died, went, afterSet, setGuess, afterProbe, probeGuess, ends, goes, ownOf, ownProbing, afterOwn, Before, turned, tries, loneGuess, before, refilled, after}
 

@@ -25,12 +25,18 @@ use Rattle.backtracking.specs.declared.node.Turned.{Turned}
 use Rattle.backtracking.proofs.Boarding.{size-same}
 use Rattle.backtracking.proofs.Asking.{asked, noted-is}
 
--- a node that a limit ends, and a node with other guesses
+-- a node that goes on, a node with other guesses, and a node that is over with these counts
+abbrev pub on : Node → Turned
+on t = record { over = false; dead = false; node = t }
+
+abbrev pub again : Node → Guesses → Turned
+again t new = on (record { board = t .board; guesses = new; probed = t .probed; made = t .made; stats = t .stats })
+
 abbrev pub stopped : Node → Stats → Turned
 stopped t s = record { over = true; dead = false; node = record { board = t .board; guesses = t .guesses; probed = t .probed; made = t .made; stats = s } }
 
-abbrev pub again : Node → Guesses → Turned
-again t new = record { over = false; dead = false; node = record { board = t .board; guesses = new; probed = t .probed; made = t .made; stats = t .stats } }
+pub refills-as : {t : Node} {masks list : List ℕ} {l : Limits} {d : ℕ} {r u : Turned} → r ≡ u → Refills t masks list l d u → Refills t masks list l d r
+refills-as {t} {masks} {list} {l} {d} e = subst (Refills t masks list l d) (sym e)
 
 pub solved-or : (u v : Bool) → u ≡ true → u || v ≡ true
 solved-or u v e = ap (λ x. x || v) e
@@ -48,15 +54,14 @@ module _ (t : Node) (masks list : List ℕ) (l : Limits) (d : ℕ) (few : t .sta
   Case r = (g : Setting (t .board .w) (t .board .h) masks) (u : Spent) → SpentIs g t list u → SpentFine g u → RefillTo g r list (refilled (g .puzzle) (limitsOf l) d u)
 
   -- a limit is met
-  pub refills-met : (k : ℕ) (s₁ : Stats) → t .guesses .head ≤ 1024 → k ≡ limitMet (t .stats) l d → (k ≡ 0 → ⊥) → s₁ ≡ noted k (t .stats) →
-      Refills t masks list l d (stopped t s₁)
-  refills-met k s₁ h e f q = record { size = size-same (t .board); few = subst (λ v. v .grids ≤ l .grids) (sym q) few; within = h; to = go }
+  pub refills-met : (k : ℕ) → t .guesses .head ≤ 1024 → k ≡ limitMet (t .stats) l d → (k ≡ 0 → ⊥) → Refills t masks list l d (stopped t (noted k (t .stats)))
+  refills-met k h e f = record { size = size-same (t .board); few = few; within = h; to = go }
     where
-      go : Case (stopped t s₁)
-      go g (spent b p made s) is fine = on-number (RefillTo g (stopped t s₁) list)
+      go : Case (stopped t (noted k (t .stats)))
+      go g (spent b p made s) is fine = on-number (RefillTo g (stopped t (noted k (t .stats))) list)
           (met (g .puzzle) (limitsOf l) s d) {f = λ n. stop (left notDead b (note (suc n) s))}
           (λ z. absurd (f (e ∙ asked g l d (is .run) ∙ z)))
-          (λ n z. (refl, (refl, is .board, noted-is g l d (is .run) k n s₁ e z q)))
+          (λ n z. (refl, (refl, is .board, noted-is g l d (is .run) k n e z)))
 
   -- the board is solved, or a cell is closed
   pub refills-over : t .guesses .head ≤ 1024 → limitMet (t .stats) l d ≡ 0 → ((those : List Guess) → Made (t .made) those → solved (boardOf (t .board)) || anyClosed (boardOf (t .board)) those ≡ true) →

@@ -5,82 +5,38 @@ use mathlib.Core.Bool.{Bool, true, false}
 use mathlib.Core.List.{List, [], _∷_}
 use Prim.Native.Nat.{ℕ, suc, _+_, _-_, _*_, _^_, _≤_, _<_}
 use native.Mathlib.Omega.{arith}
-use lib.Dec.{leb, ltb}
 use lib.ListN.{length, take}
-use borrow.Author.Tests.{leb-false, ltb-false}
 use Rattle.rules.specs.Loops.{Turn, more, stop}
 use Rattle.rules.specs.Sets.{has, single}
 use Rattle.rules.specs.Boards as Rules
 use Rattle.rules.specs.Boards.{at, put, Puzzle}
 use Rattle.rules.specs.Probing.{Run, steps}
 use Rattle.rules.specs.Guesses.{Guess, guess}
+use Rattle.rules.specs.Answers.{mostColours}
 use Rattle.rules.specs.Search as Search
-use Rattle.rules.specs.Search.{Limits, End, dead, notDead, Tried, tried, node, Pass, met, afterGuess, passStep}
+use Rattle.rules.specs.Search.{Limits, End, dead, notDead, Tried, tried, node, Pass, met, afterGuess}
 use Rattle.rules.proofs.Tests.{on-test, on-number, clash}
 use Rattle.rules.proofs.Room as Room
 use Rattle.rules.proofs.Runs.{met-none}
-use Rattle.rules.proofs.Settling.{longest, dead-same, TriedSettled}
+use Rattle.rules.proofs.Settling.{dead-same, TriedSettled}
 use Rattle.boards.specs.declared.board.Board.{Board}
-use Rattle.boards.specs.Board.{boardOf, Sized, SameSize, withCells}
+use Rattle.boards.specs.Board.{boardOf, SameSize, withCells}
 use Rattle.boards.proofs.Sizes.{few-cells}
 use Rattle.runs.specs.declared.limits.Limits.{Limits as Given}
-use Rattle.runs.specs.declared.limits.Stats.{Stats}
-use Rattle.runs.specs.Stats.{limitMet}
 use Rattle.runs.specs.Matches.{limitsOf}
 use Rattle.guesses.specs.Waiting.{Waiting}
 use Rattle.guesses.proofs.Arrays.{guesses-length}
-use Rattle.boards.specs.Table as Tables
 use Rattle.backtracking.specs.Parts.{Before, turned, tries, loneGuess, before, after, isDead}
 use Rattle.backtracking.specs.Setting.{Ready, Setting, RunIs, Fine, Few, TriedTo, Stands, NodeIs, NodeFine, TurnTo}
-use Rattle.backtracking.specs.Contracts.{BeforeTo, Begins, Ends, depthOf, tryAt, NodeStands, GuessStands, Tries, Turns}
+use Rattle.backtracking.specs.Contracts.{BeforeTo, Begins, Ends, depthOf, NodeStands, GuessStands, Tries, Turns}
 use Rattle.backtracking.specs.declared.node.Node.{Node}
 use Rattle.backtracking.specs.declared.node.Turned.{Turned}
 use Rattle.backtracking.specs.declared.node.Begun.{Begun}
 use Rattle.backtracking.specs.declared.nodes.Ended.{Ended}
 use Rattle.backtracking.proofs.Parts.{afterBefore, before-is, after-is}
-use Rattle.backtracking.proofs.Fine.{try-settled, steps-few}
-
--- ## Sizes and limits
-
-pub same-size : {a b c : Board} → SameSize a b → SameSize b c → SameSize a c
-same-size p q = record { wide = q .wide ∙ p .wide; high = q .high ∙ p .high }
-
--- what holds at a board's size holds at that of a board as large
-pub at-size : {a b : Board} (P : ℕ → ℕ → Type 0) → SameSize a b → P (b .w) (b .h) → P (a .w) (a .h)
-at-size {a} {b} P e p = subst (λ u. P u (a .h)) (e .wide) (subst (λ v. P (b .w) v) (e .high) p)
-
-pub size-at : {a b : Board} (P : ℕ → ℕ → Type 0) → SameSize a b → P (a .w) (a .h) → P (b .w) (b .h)
-size-at {a} {b} P e p = subst (λ u. P u (b .h)) (sym (e .wide)) (subst (λ v. P (a .w) v) (sym (e .high)) p)
-
-pub sized-same : {a b : Board} → SameSize a b → Sized a → Sized b
-sized-same {a} {b} e s = let u = e .wide in let v = e .high in record {
-  wide = (let k = s .wide in omega arith);
-  narrow = (let k = s .narrow in omega arith);
-  high = (let k = s .high in omega arith);
-  low = (let k = s .low in omega arith);
-}
-
-pub ready-same : {a b : Board} {masks list out : List ℕ} {l : Given} {s t : Stats} → Ready a masks list l s → SameSize a b → length out ≡ length list → t .grids ≤ l .grids → Ready b masks out l t
-ready-same {a} {b} {masks} {list} {out} {l} {s} {t} r e n f = record {
-  sized = sized-same e (r .sized);
-  table = size-at (λ u v. Tables.Playable u v masks) e (r .table);
-  grids = r .grids;
-  depth = r .depth;
-  budget = r .budget;
-  room = size-at (λ u v. l .grids * (u * v) ≤ length out) e (let k = r .room in omega arith);
-  few = f;
-}
-
--- where no limit is met a grid more has room, a step more is within the budget, and the depth is no more than the most
-pub limit-none : (s : Stats) (l : Given) (d : ℕ) → limitMet s l d ≡ 0 → (s .grids < l .grids) × (s .steps < l .budget) × (d ≤ l .depth)
-unfolding limitMet
-limit-none s l d = on-test P (leb (l .grids) (s .grids)) (λ _ e. absurd (omega arith))
-    (λ h. on-test P (leb (l .budget) (s .steps)) (λ _ e. absurd (omega arith))
-    (λ k. on-test P (ltb (l .depth) d) (λ _ e. absurd (omega arith))
-    (λ m _. (leb-false (l .grids) (s .grids) h, leb-false (l .budget) (s .steps) k, ltb-false (l .depth) d m))))
-  where
-    P : ℕ → Type 0
-    P n = n ≡ 0 → (s .grids < l .grids) × (s .steps < l .budget) × (d ≤ l .depth)
+use Rattle.backtracking.proofs.Boarding.{size-more, at-size}
+use Rattle.backtracking.proofs.Fine.{mostSteps, try-settled, steps-few}
+use Rattle.backtracking.proofs.Passing.{tryingAt, stepAt}
 
 -- ## Before a guess
 
@@ -99,20 +55,20 @@ module _ (z : Puzzle) (l : Limits) (d : ℕ) (b : Rules.Board) (c x : ℕ) (gs :
       (λ _. inr (more (node b gs p made s), refl)))
       (λ m _. inr (stop (Search.over (Search.left notDead b (Search.note (suc m) s))), refl))
 
-module _ (t : Node) (masks list : List ℕ) (l : Given) (left : ℕ) (waits : t .guesses .head < 1024) (r : Begun) (out : List ℕ) (w : Begins t masks list l (depthOf l left) r out) where
+module _ (left : ℕ) {t : Node} {masks list : List ℕ} {l : Given} (waits : t .guesses .head < 1024) {r : Begun} {out : List ℕ} (w : Begins t masks list l (depthOf l left) r out) where
   none-waits : {P : Type 0} → Waiting [] (t .guesses) → P
   none-waits i = absurd (let e = ap length (i .guesses) in omega (arith, guesses-length (t .guesses)))
 
   -- ## A guess that is not tried
 
   module _ (e : r .tries ≡ false) where
-    turned-to : (g : Setting (t .board .w) (t .board .h) masks) (n : Search.Node) → NodeIs g t list n → TurnTo g (r .turned) out (passStep (g .puzzle) (limitsOf l) (tryAt (g .puzzle) l (left - 1)) (depthOf l left) n)
+    turned-to : (g : Setting (t .board .w) (t .board .h) masks) (n : Search.Node) → NodeIs g t list n → TurnTo g (r .turned) out (stepAt g l left n)
     turned-to g (node b [] p made s) is = none-waits (is .waiting)
     turned-to g (node b (guess c x ∷ gs) p made s) is =
-        subst (TurnTo g (r .turned) out) (sym (before-is (g .puzzle) (limitsOf l) (tryAt (g .puzzle) l (left - 1)) (depthOf l left) b c x gs p made s))
+        subst (TurnTo g (r .turned) out) (sym (before-is (g .puzzle) (limitsOf l) (tryingAt g l left) (depthOf l left) b c x gs p made s))
         (go (before (g .puzzle) (limitsOf l) (depthOf l left) b c x gs p made s) (w .to g b c x gs p made s is))
       where
-        go : (v : Before) → BeforeTo g r out v → TurnTo g (r .turned) out (afterBefore (g .puzzle) (limitsOf l) (tryAt (g .puzzle) l (left - 1)) (depthOf l left) v)
+        go : (v : Before) → BeforeTo g r out v → TurnTo g (r .turned) out (afterBefore (g .puzzle) (limitsOf l) (tryingAt g l left) (depthOf l left) v)
         go (turned u) h = h .1
         go (tries c x n) h = clash (h .0) e
 
@@ -135,8 +91,8 @@ module _ (t : Node) (masks list : List ℕ) (l : Given) (left : ℕ) (waits : t 
       p : Bool
       made : List Guess
       run : Run
-      step : passStep (g .puzzle) (limitsOf l) (tryAt (g .puzzle) l (left - 1)) (depthOf l left) n ≡
-          afterGuess (g .puzzle) (limitsOf l) (tryAt (g .puzzle) l (left - 1)) (depthOf l left) board c x gs p made (tryAt (g .puzzle) l (left - 1) board c x run)
+      step : stepAt g l left n ≡
+          afterGuess (g .puzzle) (limitsOf l) (tryingAt g l left) (depthOf l left) board c x gs p made (tryingAt g l left board c x run)
       stands : Stands g (r .turned .node) out board gs p made run
       fine : Fine g board
       few : Few g gs
@@ -158,12 +114,12 @@ module _ (t : Node) (masks list : List ℕ) (l : Given) (left : ℕ) (waits : t 
           p = p;
           made = made;
           run = s;
-          step = before-is (g .puzzle) (limitsOf l) (tryAt (g .puzzle) l (left - 1)) (depthOf l left) b k y gs p made s
-              ∙ ap (afterBefore (g .puzzle) (limitsOf l) (tryAt (g .puzzle) l (left - 1)) (depthOf l left)) (h .0)
-              ∙ ap₂ (λ (u v : ℕ). afterGuess (g .puzzle) (limitsOf l) (tryAt (g .puzzle) l (left - 1)) (depthOf l left) b u v gs p made (tryAt (g .puzzle) l (left - 1) b u v s)) (sym (o .1)) (sym (o .2));
+          step = before-is (g .puzzle) (limitsOf l) (tryingAt g l left) (depthOf l left) b k y gs p made s
+              ∙ ap (afterBefore (g .puzzle) (limitsOf l) (tryingAt g l left) (depthOf l left)) (h .0)
+              ∙ ap₂ (λ (u v : ℕ). afterGuess (g .puzzle) (limitsOf l) (tryingAt g l left) (depthOf l left) b u v gs p made (tryingAt g l left b u v s)) (sym (o .1)) (sym (o .2));
           stands = o .4;
           fine = i .0;
-          few = Room.taken-waiting 3 (t .board .w * t .board .h) (guess k y) gs (i .1);
+          few = Room.taken-waiting mostColours (t .board .w * t .board .h) (guess k y) gs (i .1);
           has-colour = rw (o .1, o .2) (h .2);
           room = met-none (g .puzzle) (limitsOf l) s (depthOf l left) (h .1);
         }
@@ -184,48 +140,49 @@ module _ (t : Node) (masks list : List ℕ) (l : Given) (left : ℕ) (waits : t 
         here : boardOf (t .board) ≡ k .board
         here = ap boardOf (sym (w .same e .0)) ∙ k .stands .board
 
-    module _ (some-left : 1 ≤ left) (deep : left ≤ l .depth + 1) (q : Ended) (tried-out : List ℕ)
+    module _ (some-left : 1 ≤ left) (deep : left ≤ l .depth + 1) {q : Ended} {tried-out : List ℕ}
         (v : Tries (r .turned .node .board) c x masks out l (left - 1) (r .turned .node .stats) q tried-out) where
       -- the guess has come to what the rules say, and keeps its promise
       record Came (g : Setting (t .board .w) (t .board .h) masks) (n : Search.Node) : Type 0 where
         before-it : Tried-in g n
         end : End
         run : Run
-        came : tryAt (g .puzzle) l (left - 1) (before-it .board) c x (before-it .run) ≡ tried end run
+        came : tryingAt g l left (before-it .board) c x (before-it .run) ≡ tried end run
         is : (q .dead ≡ isDead end) × RunIs g (q .stats) tried-out run
-        settled : TriedSettled (g .puzzle) (limitsOf l) (l .budget + suc (left - 1) * longest (g .puzzle) 3) (put (before-it .board) c x) (before-it .run) (tried end run)
+        settled : TriedSettled (g .puzzle) (limitsOf l) (mostSteps g l left) (put (before-it .board) c x) (before-it .run) (tried end run)
 
       came-to : (g : Setting (t .board .w) (t .board .h) masks) (n : Search.Node) → NodeIs g t list n → NodeFine g n → Came g n
-      came-to g n is fine = go (tryAt (g .puzzle) l (left - 1) (k .board) c x (k .run)) refl
-          (subst (λ b. TriedTo g (q .dead) (q .stats) tried-out (tryAt (g .puzzle) l (left - 1) b c x (k .run))) (k .stands .board)
+      came-to g n is fine = go (tryingAt g l left (k .board) c x (k .run)) refl
+          (subst (λ b. TriedTo g (q .dead) (q .stats) tried-out (tryingAt g l left b c x (k .run))) (k .stands .board)
           (at-size
           (λ a b. (g : Setting a b masks) (s : Run) → RunIs g (r .turned .node .stats) out s → Fine g (boardOf (r .turned .node .board)) → has (at (boardOf (r .turned .node .board)) c) x ≡ true →
-          TriedTo g (q .dead) (q .stats) tried-out (tryAt (g .puzzle) l (left - 1) (boardOf (r .turned .node .board)) c x s))
+          TriedTo g (q .dead) (q .stats) tried-out (tryingAt g l left (boardOf (r .turned .node .board)) c x s))
           (w .size) (v .to) g (k .run) (k .stands .run) (subst (Fine g) (sym (k .stands .board)) (k .fine)) (subst (λ b. has (at b c) x ≡ true) (sym (k .stands .board)) (k .has-colour))))
           (try-settled g l left some-left deep (k .board) c x (k .run) (k .fine) (k .has-colour) (k .room .0) (k .room .1))
         where
           k : Tried-in g n
           k = tried-in g n is fine
 
-          go : (o : Tried) → tryAt (g .puzzle) l (left - 1) (k .board) c x (k .run) ≡ o → TriedTo g (q .dead) (q .stats) tried-out o →
-              TriedSettled (g .puzzle) (limitsOf l) (l .budget + suc (left - 1) * longest (g .puzzle) 3) (put (k .board) c x) (k .run) (tryAt (g .puzzle) l (left - 1) (k .board) c x (k .run)) → Came g n
+          go : (o : Tried) → tryingAt g l left (k .board) c x (k .run) ≡ o → TriedTo g (q .dead) (q .stats) tried-out o →
+              TriedSettled (g .puzzle) (limitsOf l) (mostSteps g l left) (put (k .board) c x) (k .run) (tryingAt g l left (k .board) c x (k .run)) → Came g n
           go (tried a s) o h y = record {
             before-it = k;
             end = a;
             run = s;
             came = o;
             is = h;
-            settled = subst (TriedSettled (g .puzzle) (limitsOf l) (l .budget + suc (left - 1) * longest (g .puzzle) 3) (put (k .board) c x) (k .run)) o y;
+            settled = subst (TriedSettled (g .puzzle) (limitsOf l) (mostSteps g l left) (put (k .board) c x) (k .run)) o y;
           }
 
       -- its steps stay few
       pub tried-steps : Ready (t .board) masks list l (t .stats) → NodeStands t masks list → q .stats .steps ≤ 2 ^ 40
       tried-steps y m =
           let k = came-to (m .setting) (m .node) (m .is) (m .fine) in
-          steps-few (m .setting) l left some-left deep (y .depth) (y .budget) (few-cells (t .board) (y .sized)) (q .stats .steps) (subst (λ n. n ≤ l .budget + suc (left - 1) * longest (m .setting .puzzle) 3) (sym (k .is .1 .steps)) (k .settled .short))
+          steps-few (m .setting) l left some-left deep (y .depth) (y .budget) (few-cells (t .board) (y .sized)) (q .stats .steps)
+          (subst (λ n. n ≤ mostSteps (m .setting) l left) (sym (k .is .1 .steps)) (k .settled .short))
 
       -- the board is restored, and the guess has ended
-      module _ (restored : Board) (as-saved : restored ≡ withCells (q .board) (r .turned .node .board .cells)) where
+      module _ {restored : Board} (as-saved : restored ≡ withCells (q .board) (r .turned .node .board .cells)) where
         abbrev pub back : Node
         back = record { board = restored; guesses = r .turned .node .guesses; probed = r .turned .node .probed; made = r .turned .node .made; stats = q .stats }
 
@@ -235,15 +192,16 @@ module _ (t : Node) (masks list : List ℕ) (l : Given) (left : ℕ) (waits : t 
         back-board : boardOf restored ≡ boardOf (r .turned .node .board)
         back-board = ap boardOf as-saved ∙ ap₂ (λ (a b : ℕ). take (a * b) (r .turned .node .board .cells)) (v .size .wide) (v .size .high)
 
-        module _ (u : Turned) (last : List ℕ) (i : Ends back c x (q .dead) masks tried-out l (q .stats) u last) where
+        module _ {u : Turned} {last : List ℕ} (i : Ends back c x (q .dead) masks tried-out l (q .stats) u last) where
           ended-to : (g : Setting (t .board .w) (t .board .h) masks) (n : Search.Node) → NodeIs g t list n → NodeFine g n →
-              TurnTo g u last (passStep (g .puzzle) (limitsOf l) (tryAt (g .puzzle) l (left - 1)) (depthOf l left) n)
+              TurnTo g u last (stepAt g l left n)
           ended-to g n is fine = subst (TurnTo g u last)
-              (sym (k .step ∙ ap (afterGuess (g .puzzle) (limitsOf l) (tryAt (g .puzzle) l (left - 1)) (depthOf l left) (k .board) c x (k .gs) (k .p) (k .made)) (o .came)
-              ∙ after-is (g .puzzle) (limitsOf l) (tryAt (g .puzzle) l (left - 1)) (depthOf l left) (k .board) c x (k .gs) (k .p) (k .made) (o .end) (o .run)))
+              (sym (k .step ∙ ap (afterGuess (g .puzzle) (limitsOf l) (tryingAt g l left) (depthOf l left) (k .board) c x (k .gs) (k .p) (k .made)) (o .came)
+              ∙ after-is (g .puzzle) (limitsOf l) (tryingAt g l left) (depthOf l left) (k .board) c x (k .gs) (k .p) (k .made) (o .end) (o .run)))
               (at-size
               (λ a b. (g : Setting a b masks) (b : Rules.Board) (gs : List Guess) (p : Bool) (made : List Guess) (s₀ s₁ : Run) (e : End) → Stands g back tried-out b gs p made s₀ →
-              q .dead ≡ isDead e → RunIs g (q .stats) tried-out s₁ → Fine g b → Few g gs → has (at b c) x ≡ true → (e ≡ dead → q .stats .grids < l .grids) → TurnTo g u last (after (g .puzzle) b c x gs p made e s₁))
+              q .dead ≡ isDead e → RunIs g (q .stats) tried-out s₁ → Fine g b → Few g gs → has (at b c) x ≡ true → (e ≡ dead → q .stats .grids < l .grids) →
+              TurnTo g u last (after (g .puzzle) b c x gs p made e s₁))
               back-size (i .to) g (k .board) (k .gs) (k .p) (k .made) (o .run) (o .run) (o .end)
               (record { board = back-board ∙ k .stands .board; waiting = k .stands .waiting; probed = k .stands .probed; made = k .stands .made; run = o .is .1 })
               (o .is .0) (o .is .1) (k .fine) (k .few) (k .has-colour) (λ d. room (o .end) d (o .settled)))
@@ -254,9 +212,13 @@ module _ (t : Node) (masks list : List ℕ) (l : Given) (left : ℕ) (waits : t 
               k : Tried-in g n
               k = o .before-it
 
-              room : (a : End) → a ≡ dead → TriedSettled (g .puzzle) (limitsOf l) (l .budget + suc (left - 1) * longest (g .puzzle) 3) (put (k .board) c x) (k .run) (tried a (o .run)) → q .stats .grids < l .grids
-              room dead d y = let a : length (o .run .stored) ≡ length (k .run .stored) = ap length (dead-same (g .puzzle) (limitsOf l) y) in let b = o .is .1 .grids in let f = k .room .0 in omega arith
+              room : (a : End) → a ≡ dead → TriedSettled (g .puzzle) (limitsOf l) (mostSteps g l left) (put (k .board) c x) (k .run) (tried a (o .run)) → q .stats .grids < l .grids
+              room dead d y =
+                  let a : length (o .run .stored) ≡ length (k .run .stored) = ap length (dead-same (g .puzzle) (limitsOf l) y) in
+                  let b = o .is .1 .grids in
+                  let f = k .room .0 in
+                  omega arith
               room notDead d y = absurd (let f : _≡_ {A = ℕ} 0 1 = cc in omega arith)
 
           pub turn-tried : Turns t masks list l left u last
-          turn-tried = record { size = same-size back-size (i .size); few = i .few; within = i .within; to = ended-to }
+          turn-tried = record { size = size-more back-size (i .size); few = i .few; within = i .within; to = ended-to }

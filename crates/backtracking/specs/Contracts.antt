@@ -1,30 +1,26 @@
 -- What the functions of this crate come to.
 use mathlib.Core.Path.{_≡_}
 use mathlib.Core.Bool.{Bool, true, false, not}
-use mathlib.Core.List.{List, [], _∷_}
-use Prim.Native.Nat.{ℕ, suc, _+_, _-_, _*_, _^_, _≤_, _<_}
-use lib.ListN.{length}
+use mathlib.Core.List.{List, _∷_}
+use Prim.Native.Nat.{ℕ, _+_, _-_, _*_, _≤_, _<_}
 use Rattle.rules.specs.Sets.{has}
 use Rattle.rules.specs.Boards as Rules
 use Rattle.rules.specs.Boards.{Puzzle, at}
 use Rattle.rules.specs.Probing.{Run, CellQueue}
-use Rattle.rules.specs.Probing as Probing
 use Rattle.rules.specs.Guesses as Choosing
 use Rattle.rules.specs.Search as Search
-use Rattle.rules.specs.Search.{Left, Tried, Spent, Limits, End, dead, node, passStep, pass, tryGuess, search}
+use Rattle.rules.specs.Search.{Tried, Spent, End, dead, node, passStep, pass, tryGuess, search}
 use Rattle.boards.specs.declared.board.Board.{Board}
-use Rattle.boards.specs.Board.{boardOf, Sized, SameSize}
-use Rattle.queues.specs.declared.Queue.{Queue}
+use Rattle.boards.specs.Board.{boardOf, SameSize}
 use Rattle.queues.specs.Entries.{Holds}
 use Rattle.runs.specs.declared.limits.Limits.{Limits as Given}
 use Rattle.runs.specs.declared.limits.Stats.{Stats}
 use Rattle.runs.specs.Matches.{limitsOf}
 use Rattle.guesses.specs.declared.waiting.Guesses.{Guesses}
 use Rattle.guesses.specs.Waiting.{Waiting}
-use Rattle.guesses.specs.Made.{Made}
 use Rattle.notes.specs.Round.{notesOf}
-use Rattle.backtracking.specs.Parts.{Went, Own, ends, goes, Before, turned, tries, checkedIn, kept, setGuess, probeGuess, isDead, ownProbing, before, refilled, after}
-use Rattle.backtracking.specs.Setting.{Ready, Setting, RunIs, Fine, Few, WentTo, LeftTo, TriedTo, Stands, NodeIs, SpentIs, NodeFine, SpentFine, TurnTo, PassTo, RefillTo}
+use Rattle.backtracking.specs.Parts.{Went, Own, ends, goes, Before, turned, tries, setGuess, probeGuess, isDead, ownProbing, before, refilled, after}
+use Rattle.backtracking.specs.Setting.{Setting, RunIs, Fine, Few, WentTo, LeftTo, TriedTo, Stands, NodeIs, SpentIs, NodeFine, SpentFine, TurnTo, PassTo, RefillTo}
 use Rattle.backtracking.specs.declared.store.Stored.{Stored}
 use Rattle.backtracking.specs.declared.guess.Guessed.{Guessed}
 use Rattle.backtracking.specs.declared.guess.ProbedGuess.{ProbedGuess}
@@ -75,7 +71,8 @@ pub record Begins (t : Node) (masks list : List ℕ) (l : Given) (d : ℕ) (r : 
   pub size : SameSize (t .board) (r .turned .node .board)
   pub few : r .turned .node .stats .grids ≤ l .grids
   pub within : r .turned .node .guesses .head ≤ 1024
-  pub same : r .tries ≡ true → (r .turned .node .board ≡ t .board) × (r .turned .node .stats ≡ t .stats) × (out ≡ list) × (r .cell .0 < t .board .w * t .board .h) × (r .colour .0 < 8) × (t .stats .grids < l .grids) × (t .stats .steps < l .budget)
+  pub same : r .tries ≡ true → (r .turned .node .board ≡ t .board) × (r .turned .node .stats ≡ t .stats) × (out ≡ list) ×
+      (r .cell .0 < t .board .w * t .board .h) × (r .colour .0 < 8) × (t .stats .grids < l .grids) × (t .stats .steps < l .budget)
   pub to : (g : Setting (t .board .w) (t .board .h) masks) (b : Rules.Board) (c x : ℕ) (gs : List Choosing.Guess) (p : Bool) (made : List Choosing.Guess) (s : Run) →
       Stands g t list b (Choosing.guess c x ∷ gs) p made s → BeforeTo g r out (before (g .puzzle) (limitsOf l) d b c x gs p made s)
 

@@ -1,6 +1,6 @@
 -- The parts of a guess and of a node, as the code has them. `proofs/Parts.antt` shows that they make up the rules' guess and the rules' steps.
 use mathlib.Core.Bool.{Bool, true, false, _||_}
-use mathlib.Core.List.{List, [], _∷_}
+use mathlib.Core.List.{List, _∷_}
 use mathlib.Core.Option.{Option, none, some}
 use Prim.Native.Nat.{ℕ, zero, suc}
 use Rattle.rules.specs.Loops.{Turn, more, stop}
@@ -9,7 +9,7 @@ use Rattle.rules.specs.Boards.{Board, Cell, at, put, remove, solved, newly, Puz
 use Rattle.rules.specs.Propagation.{propagate, check}
 use Rattle.rules.specs.Probing.{guessed, Run, event, CellQueue, startQueue, pushBoth, Notes, Probed, contradiction, probed, probe}
 use Rattle.rules.specs.Guesses.{Guess, guess}
-use Rattle.rules.specs.Search.{Limits, End, dead, notDead, Left, left, Node, node, Spent, spent, Pass, over, ranOut, note, store, met, others, anyClosed, firstUnsolved}
+use Rattle.rules.specs.Search.{Limits, End, dead, notDead, Left, left, Node, node, Spent, spent, Pass, over, note, store, met, others, anyClosed, firstUnsolved}
 
 -- ## A guess: its colour is set, then it is probed, then the search goes one deeper
 

@@ -2,27 +2,27 @@
 use mathlib.Core.Path.{_≡_}
 use mathlib.Core.Bool.{Bool, true, false}
 use mathlib.Core.List.{List, []}
-use Prim.Native.Nat.{ℕ, _+_, _*_, _^_, _≤_, _<_}
+use Prim.Native.Nat.{ℕ, _*_, _≤_}
 use lib.ListN.{length}
 use Rattle.rules.specs.Loops.{Turn, more, stop}
 use Rattle.rules.specs.Boards as Rules
 use Rattle.rules.specs.Boards.{Puzzle}
 use Rattle.rules.specs.Probing.{Run}
 use Rattle.rules.specs.Guesses.{Guess}
+use Rattle.rules.specs.Answers.{mostColours}
 use Rattle.rules.specs.Search as Search
 use Rattle.rules.specs.Search.{Left, left, Tried, tried, node, Spent, spent, Pass, over, ranOut}
 use Rattle.rules.proofs.Fitting as Fitting
 use Rattle.rules.proofs.Room as Room
 use Rattle.boards.specs.declared.board.Board.{Board}
-use Rattle.boards.specs.Board.{boardOf, Sized, SameSize}
+use Rattle.boards.specs.Board.{boardOf, Sized}
 use Rattle.runs.specs.declared.limits.Limits.{Limits}
 use Rattle.runs.specs.declared.limits.Stats.{Stats}
 use Rattle.runs.specs.Matches.{Matches}
-use Rattle.guesses.specs.declared.waiting.Guesses.{Guesses}
 use Rattle.guesses.specs.Waiting.{Waiting}
 use Rattle.guesses.specs.Made.{Made}
 use Rattle.boards.specs.Table.{Table, Playable}
-use Rattle.backtracking.specs.Parts.{Went, died, went, isDead, Own, ends, goes}
+use Rattle.backtracking.specs.Parts.{Went, died, went, isDead}
 use Rattle.backtracking.specs.declared.node.Node.{Node}
 use Rattle.backtracking.specs.declared.node.Turned.{Turned}
 
@@ -49,11 +49,11 @@ module _ {w h : ℕ} {masks : List ℕ} (g : Setting w h masks) where
 
   -- a board on which the search may go on: each cell has some of the colours
   abbrev pub Fine : Rules.Board → Type 0
-  Fine b = Fitting.Playable (g .puzzle) 3 b
+  Fine b = Fitting.Playable (g .puzzle) mostColours b
 
   -- guesses that have room
   abbrev pub Few : List Guess → Type 0
-  Few gs = Room.Waiting 3 (w * h) gs
+  Few gs = Room.Waiting mostColours (w * h) gs
 
   -- what a part of a guess comes to
   abbrev pub WentTo : {A : Type 0} → (A → Type 0) → Bool → Stats → List ℕ → Went A → Type 0

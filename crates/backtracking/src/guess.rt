@@ -92,12 +92,12 @@ pub fn probe_guess(
             stats: s,
         };
     }
-    let k = keep(b, list, masks, s, l);
-    let kept = k.stats;
+    let found = keep(b, list, masks, s, l);
+    let counts = found.stats;
     ProbedGuess {
-        dead: !k.ok,
+        dead: !found.ok,
         board: b,
         notes,
-        stats: kept,
+        stats: counts,
     }
 }

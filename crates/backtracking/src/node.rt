@@ -9,12 +9,13 @@ use runs::Limits;
 use runs::Stats;
 use runs::limits_reached;
 ghost use mathlib.Core.Path.{_≡_};
-ghost use mathlib.Core.Bool.{true};
+ghost use mathlib.Core.Bool.{true, false};
 ghost use mathlib.Core.List.{List};
 ghost use Prim.Native.Nat.{ℕ, _*_, _^_, _≤_, _<_};
 ghost use Rattle.rules.specs.Sets.{has};
 ghost use Rattle.rules.specs.Boards.{at};
 ghost use Rattle.boards.specs.Board.{boardOf, Sized};
+ghost use Rattle.runs.specs.Stats.{noted};
 ghost use Rattle.backtracking.specs.Setting.{Ready};
 ghost use Rattle.backtracking.specs.Contracts.{ProbesNode, Begins, Ends, Refills};
 
@@ -32,6 +33,62 @@ pub struct Turned {
     pub over: bool,
     pub dead: bool,
     pub node: Node,
+}
+
+// A node that goes on.
+pub fn goes_on(t: Node) -> Turned
+    ensures { λ r. ⌜ r ≡ record { over = false; dead = false; node = t } ⌝ }
+{
+    Turned {
+        over: false,
+        dead: false,
+        node: t,
+    }
+}
+
+// A node that is over.
+fn ended(t: Node, dead: bool) -> Turned
+    ensures { λ r. ⌜ r ≡ record { over = true; dead = dead; node = t } ⌝ }
+{
+    Turned {
+        over: true,
+        dead,
+        node: t,
+    }
+}
+
+// A limit is met: it is noted, and the node is over and not dead.
+fn stopped(t: Node, m: u8) -> Turned
+    ensures { λ r. ⌜ r ≡ record { over = true; dead = false; node = record { board = t .board; guesses = t .guesses; probed = t .probed; made = t .made; stats = noted m (t .stats) } } ⌝ }
+{
+    let board = t.board;
+    let guesses = t.guesses;
+    let made = t.made;
+    let stats = t.stats;
+    let limited = Node {
+        board,
+        guesses,
+        probed: t.probed,
+        made,
+        stats: stats.noted(m),
+    };
+    ended(limited, false)
+}
+
+// The node with other guesses.
+fn with_guesses(t: Node, guesses: Guesses) -> Node
+    ensures { λ r. ⌜ r ≡ record { board = t .board; guesses = guesses; probed = t .probed; made = t .made; stats = t .stats } ⌝ }
+{
+    let board = t.board;
+    let made = t.made;
+    let stats = t.stats;
+    Node {
+        board,
+        guesses,
+        probed: t.probed,
+        made,
+        stats,
+    }
 }
 
 // A node's own probing: whether it ends the node, and dead; the board, and the counts.
@@ -82,12 +139,45 @@ pub fn probe_node(
     }
 }
 
+// The node after its own probing, with other guesses.
+fn after_own(t: Node, guesses: Guesses, o: OwnProbing) -> Turned
+    ensures { λ r. ⌜ r ≡ record { over = o .over; dead = o .dead; node = record { board = o .board; guesses = guesses; probed = true; made = t .made; stats = o .stats } } ⌝ }
+{
+    let board = o.board;
+    let made = t.made;
+    let stats = o.stats;
+    let probed = Node {
+        board,
+        guesses,
+        probed: true,
+        made,
+        stats,
+    };
+    Turned {
+        over: o.over,
+        dead: o.dead,
+        node: probed,
+    }
+}
+
 // What comes of the next guess before it is tried: it is to be tried, or the node has turned.
 pub struct Begun {
     pub tries: bool,
     pub cell: CellNo,
     pub colour: Colour,
     pub turned: Turned,
+}
+
+// A guess that is passed over: the node has turned.
+fn passed(c: CellNo, x: Colour, u: Turned) -> Begun
+    ensures { λ r. ⌜ r ≡ record { tries = false; cell = c; colour = x; turned = u } ⌝ }
+{
+    Begun {
+        tries: false,
+        cell: c,
+        colour: x,
+        turned: u,
+    }
 }
 
 // Whether a cell of the board has a colour.
@@ -112,95 +202,32 @@ pub fn before_guess(t: Node, list: &mut [u8], masks: &[u32], l: Limits, depth: u
 {
     let b = t.board;
     let waiting = t.guesses;
-    let made = t.made;
     let stats = t.stats;
     let g = waiting.first();
     let c = g.cell;
     let x = g.colour;
     let m = limits_reached(stats, l, depth);
     if m != 0 {
-        let ended = Node {
-            board: b,
-            guesses: waiting,
-            probed: t.probed,
-            made,
-            stats: stats.noted(m),
-        };
-        return Begun {
-            tries: false,
-            cell: c,
-            colour: x,
-            turned: Turned {
-                over: true,
-                dead: false,
-                node: ended,
-            },
-        };
+        return passed(c, x, stopped(t, m));
     }
     let others = waiting.rest();
-    let rest = Node {
-        board: b,
-        guesses: others,
-        probed: t.probed,
-        made,
-        stats,
-    };
+    let rest = goes_on(with_guesses(t, others));
     if !has_colour(b, c, x) {
-        return Begun {
-            tries: false,
-            cell: c,
-            colour: x,
-            turned: Turned {
-                over: false,
-                dead: false,
-                node: rest,
-            },
-        };
+        return passed(c, x, rest);
     }
     if !cells::is_solved(b.cell(c)) {
         return Begun {
             tries: true,
             cell: c,
             colour: x,
-            turned: Turned {
-                over: false,
-                dead: false,
-                node: rest,
-            },
+            turned: rest,
         };
     }
     if t.probed {
-        return Begun {
-            tries: false,
-            cell: c,
-            colour: x,
-            turned: Turned {
-                over: false,
-                dead: false,
-                node: rest,
-            },
-        };
+        return passed(c, x, rest);
     }
     let o = probe_node(b, list, masks, stats, l);
-    let e = o.board;
-    let s = o.stats;
-    let probed = Node {
-        board: e,
-        guesses: others,
-        probed: true,
-        made,
-        stats: s,
-    };
-    Begun {
-        tries: false,
-        cell: c,
-        colour: x,
-        turned: Turned {
-            over: o.over,
-            dead: o.dead,
-            node: probed,
-        },
-    }
+    passed(c, x, after_own(t, others, o))
 }
 
 // After a dead guess its colour is removed (the last one: node dead), the node is probed, and the cell's other colours come to wait. Another guess is noted as made.
@@ -228,42 +255,22 @@ pub fn after_guess(
             made: guesses::mark(made, c, x),
             stats,
         };
-        return Turned {
-            over: false,
-            dead: false,
-            node: marked,
-        };
+        return goes_on(marked);
     }
     let a = b.remove(c, x);
     if a.cell(c) == 0 {
-        let ended = Node {
+        let emptied = Node {
             board: a,
             guesses: waiting,
             probed: t.probed,
             made,
             stats,
         };
-        return Turned {
-            over: true,
-            dead: true,
-            node: ended,
-        };
+        return ended(emptied, true);
     }
     let o = probe_node(a, list, masks, stats, l);
     let e = o.board;
-    let s = o.stats;
-    let probed = Node {
-        board: e,
-        guesses: waiting.others(c, x, e.cell(c)),
-        probed: true,
-        made,
-        stats: s,
-    };
-    Turned {
-        over: o.over,
-        dead: o.dead,
-        node: probed,
-    }
+    after_own(t, waiting.others(c, x, e.cell(c)), o)
 }
 
 // M3: when guesses run out limits are asked; if the board is unsolved and no cell is closed, the first unsolved cell gives new guesses. Otherwise the node ends, not dead.
@@ -272,48 +279,17 @@ pub fn refill(t: Node, l: Limits, depth: usize) -> Turned
     ensures { λ r. ⌜ ((masks list : List ℕ) → Refills t masks list l depth r) ⌝ }
 {
     let b = t.board;
-    let waiting = t.guesses;
     let made = t.made;
     let stats = t.stats;
     let m = limits_reached(stats, l, depth);
     if m != 0 {
-        let ended = Node {
-            board: b,
-            guesses: waiting,
-            probed: t.probed,
-            made,
-            stats: stats.noted(m),
-        };
-        return Turned {
-            over: true,
-            dead: false,
-            node: ended,
-        };
+        return stopped(t, m);
     }
     if b.is_solved_full() {
-        return Turned {
-            over: true,
-            dead: false,
-            node: t,
-        };
+        return ended(t, false);
     }
     if guesses::any_closed(b, made) {
-        return Turned {
-            over: true,
-            dead: false,
-            node: t,
-        };
+        return ended(t, false);
     }
-    let again = Node {
-        board: b,
-        guesses: guesses::first_unsolved(b),
-        probed: t.probed,
-        made,
-        stats,
-    };
-    Turned {
-        over: false,
-        dead: false,
-        node: again,
-    }
+    goes_on(with_guesses(t, guesses::first_unsolved(b)))
 }

@@ -5,6 +5,7 @@ use crate::node::Node;
 use crate::node::Turned;
 use crate::node::after_guess;
 use crate::node::before_guess;
+use crate::node::goes_on;
 use crate::node::refill;
 use boards::Board;
 use cells::CellNo;
@@ -15,7 +16,9 @@ use runs::Limits;
 use runs::Stats;
 use runs::limits_reached;
 ghost use mathlib.Core.Path.{_≡_};
+ghost use mathlib.Core.Bool.{false};
 ghost use Prim.Native.Nat.{_+_, _*_, _≤_, _<_};
+ghost use Rattle.runs.specs.Stats.{noted};
 ghost use Rattle.backtracking.specs.Setting.{Ready};
 ghost use Rattle.backtracking.specs.Contracts.{NodeStands, SearchStands, GuessStands, Searches, Passes, Turns, Tries};
 
@@ -40,6 +43,17 @@ fn leave(t: Turned) -> Ended
     }
 }
 
+// A limit is met: it is noted, and what it ends is not dead.
+fn limited(board: Board, stats: Stats, m: u8) -> Ended
+    ensures { λ r. ⌜ r ≡ record { dead = false; board = board; stats = noted m stats } ⌝ }
+{
+    Ended {
+        dead: false,
+        board,
+        stats: stats.noted(m),
+    }
+}
+
 // The search at a node with its chosen guesses; `left` is how much deeper it may go, so that its depth is one more than the most depth, less that.
 pub fn search(
     board: Board,
@@ -56,11 +70,7 @@ pub fn search(
     let depth = l.depth + 1 - left;
     let m = limits_reached(stats, l, depth);
     if m != 0 {
-        return Ended {
-            dead: false,
-            board,
-            stats: stats.noted(m),
-        };
+        return limited(board, stats, m);
     }
     let begun = Node {
         board,
@@ -101,11 +111,7 @@ fn search_mutable(node: Node, list: &mut [u8], masks: &[u32], l: Limits, left: u
         }
         t = u.node;
     }
-    Turned {
-        over: false,
-        dead: false,
-        node: t,
-    }
+    goes_on(t)
 }
 
 // The next guess: limits are asked before it, and the board is restored after it.
@@ -167,11 +173,7 @@ pub fn try_direction(
     }
     let m = limits_reached(s, l, depth);
     if m != 0 {
-        return Ended {
-            dead: false,
-            board: a,
-            stats: s.noted(m),
-        };
+        return limited(a, s, m);
     }
     let p = probe_guess(a, queue, &mut *list, masks, s, l);
     let b = p.board;
@@ -186,11 +188,7 @@ pub fn try_direction(
     }
     let k = limits_reached(e, l, depth);
     if k != 0 {
-        return Ended {
-            dead: false,
-            board: b,
-            stats: e.noted(k),
-        };
+        return limited(b, e, k);
     }
     if b.is_solved_full() {
         return Ended {

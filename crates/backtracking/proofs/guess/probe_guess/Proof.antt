@@ -36,7 +36,8 @@ returns-2 c =
     let d = k .before .before .before .before .before .before in
     let s = d .before .before .before .before in
     let a = s .args in
-    probes-on (a .board) _ _ _ (a .l) (a .stats) _ (d .before .run .result) (s .pre .0 .few) (d .stepped .ensures) (d .before .run .ensures) (k .keep .result) _ (not-false _ (k .before .before .if1 .left)) (k .keep .ensures)
+    probes-on (a .board) _ _ _ (a .l) (a .stats) _ (d .before .run .result) (s .pre .0 .few) (d .stepped .ensures) (d .before .run .ensures)
+    (k .keep .result) _ (not-false _ (k .before .before .if1 .left)) (k .keep .ensures)
 
 pub probe-guess-spec : {M : Type 1} → statement M
 probe-guess-spec =
