@@ -1,6 +1,11 @@
-# The commands of this repository. `make rules` proves the definitions with their worked examples; `make test` runs every test.
+# The commands of this repository. `make report` proves the search and shows it at work; `make rules` proves the definitions with their worked examples; `make test` runs every test.
 
-.PHONY: rules test tidy oracle
+.PHONY: rules report test tidy oracle mends library bindings differences benchmark
+
+# `rt check` runs the program and holds what it writes to its file `stdout`, which is printed then.
+report:
+	@rt check report
+	@cat crates/report/stdout
 
 rules:
 	rt check rules
@@ -14,6 +19,28 @@ tidy:
 oracle:
 	@tools/oracle
 
+# Each mend taken out of the rules and of the code alike is refused by the promise.
+mends:
+	@tools/mends
+
+# The library for C and Rust: target/lib/libbelutharin.a.
+library:
+	@tools/library
+
+# The library and its tests: C, Rust, and a differential run of some thousand cases.
+bindings:
+	@tools/bindings
+
+# The library against both oracles, on COUNT cases from SEED.
+SEED = 1
+COUNT = 100000
+differences: library
+	@tools/differences $(SEED) $(COUNT)
+
+# The library beside the unmended oracle, written to docs/BENCHMARK.md.
+benchmark: library
+	@tools/benchmark
+
 # The last line is the verdict of `rt ci`.
-test: tidy oracle
+test: tidy oracle mends bindings
 	@rt ci

@@ -1,0 +1,2 @@
+-- Laws of the place of a grid.
+pub mod Placing
