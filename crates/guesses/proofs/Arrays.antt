@@ -9,15 +9,13 @@ use lib.Seq.{getD-set-same, getD-set-other}
 use mir.Val.{Val}
 use denote.Laws.{Is}
 use denote.Struct.Declared.{row}
-use borrow.Author.Tests.{leb-true, leb-false}
-use lib.Dec.{leb}
 use Rattle.rules.specs.Lists.{any, from}
 use Rattle.rules.specs.Guesses as Rules
 use Rattle.rules.specs.Search.{sameGuess, among}
 use Rattle.rules.proofs.Lists.{from-low, from-more, from-end, map-same, any-map}
 use Rattle.rules.proofs.Given.{length-given}
 use Rattle.guesses.specs.declared.waiting.Guesses.{Guesses}
-use Rattle.guesses.specs.Waiting.{guessAt, guessesOf, Waiting, IfRoom, Emptied, Rest}
+use Rattle.guesses.specs.Waiting.{guessAt, guessesOf, Waiting, IfRoom, Rest}
 use Rattle.guesses.proofs.waiting.Guesses as guesses
 
 -- guesses that a function is passed, or is returned, have 1,024 places
@@ -38,9 +36,6 @@ guesses-none g h = ap (map (guessAt g)) (from-end (g .head) 1024 h)
 
 pub none-waiting : (cells colours : List ℕ) → Waiting [] (record { head = 1024; cells = cells; colours = colours })
 none-waiting cells colours = record { within = omega arith; guesses = guesses-none (record { head = 1024; cells = cells; colours = colours }) (omega arith) }
-
-pub emptied : (g : Guesses) → Emptied g (leb 1024 (g .head))
-emptied g = record { none = λ e. guesses-none g (leb-true 1024 (g .head) e); some = λ e. leb-false 1024 (g .head) e }
 
 -- ## Taking the next guess
 

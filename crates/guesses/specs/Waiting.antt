@@ -1,8 +1,8 @@
 -- What the arrays of the waiting guesses stand for: the rules' list of guesses.
 use mathlib.Core.Path.{_≡_}
 use mathlib.Core.Bool.{Bool, true, false, _||_}
-use mathlib.Core.List.{List, [], _∷_, map}
-use Prim.Native.Nat.{ℕ, _-_, _≤_, _<_}
+use mathlib.Core.List.{List, _∷_, map}
+use Prim.Native.Nat.{ℕ, _-_, _≤_}
 use lib.Dec.{eqb}
 use lib.ListN.{length, getD}
 use Rattle.rules.specs.Lists.{from}
@@ -37,11 +37,6 @@ pub record Waiting (gs : List Rules.Guess) (g : Guesses) : Type 0 where
 pub record IfRoom (gs : List Rules.Guess) (g : Guesses) : Type 0 where
   pub within : g .head ≤ 1024
   pub guesses : length gs ≤ 1024 → guessesOf g ≡ gs
-
--- whether none waits in g
-pub record Emptied (g : Guesses) (r : Bool) : Type 0 where
-  pub none : r ≡ true → guessesOf g ≡ []
-  pub some : r ≡ false → g .head < 1024
 
 -- r is g without the next guess
 pub record Rest (g r : Guesses) : Type 0 where

@@ -5,7 +5,7 @@ ghost use Prim.Native.Nat.{_≤_, _<_};
 ghost use Rattle.rules.specs.Sets.{colours};
 ghost use Rattle.rules.specs.Guesses.{guess};
 ghost use Rattle.rules.specs.Search.{sameGuess, among, others};
-ghost use Rattle.guesses.specs.Waiting.{guessOf, next, guessesOf, Waiting, IfRoom, Emptied, Rest, withIf, withOther};
+ghost use Rattle.guesses.specs.Waiting.{guessOf, next, guessesOf, Waiting, IfRoom, Rest, withIf, withOther};
 use cells::CellNo;
 use cells::Colour;
 
@@ -44,13 +44,6 @@ impl Guesses {
             cells,
             colours,
         }
-    }
-
-    // Whether none waits.
-    pub fn is_empty(self) -> bool
-        ensures { λ r. ⌜ Emptied self r ⌝ }
-    {
-        MOST_WAITING <= self.head
     }
 
     // The next guess.

@@ -57,6 +57,3 @@ priority-plain u r w c h h₁ h₂ h₃ h₄ h₅ h₆ = priority-at-most u r w 
 -- the two priorities of neighbours
 pub ten-plain : Plain (float 10)
 ten-plain = float-plain 10 (lit≤ tt)
-
-pub twenty-plain : Plain (float 20)
-twenty-plain = float-plain 20 (lit≤ tt)

@@ -3,7 +3,7 @@
 -- guess, the colours of the first unsolved cell, and each step of a pass.
 use mathlib.Core.Path.{_≡_, refl, sym, ap, subst, _∙_}
 use mathlib.Core.Logic.{inl, inr}
-use mathlib.Core.Bool.{Bool, true, false, not, _||_}
+use mathlib.Core.Bool.{false, not, _||_}
 use mathlib.Core.List.{List, [], _∷_, _++_, map, List·Memᴰ·head, List·Memᴰ·tail, List·Memᴰ·cases-cons, List·Memᴰ·not-nil, List·Memᴰ·append-cases}
 use mathlib.Core.Option.{Option, none, some}
 use Prim.Native.Nat.{ℕ, suc, _+_, _*_, _/_, _%_, _^_, _≤_, _<_}
@@ -13,23 +13,20 @@ use lib.ListN.{length, getD, length-set, length-map}
 use lib.Seq.{getD-set-same, getD-set-other}
 use lib.Dec.{eqb, ltb}
 use Rattle.rules.specs.Lists.{first, joined}
-use Rattle.rules.specs.Loops.{Turn, Holds}
-use Rattle.rules.specs.Sets.{Colour, has, colours, single, empty}
+use Rattle.rules.specs.Sets.{Colour, colours, single}
 use Rattle.rules.specs.Queues.{push, inOrder}
-use Rattle.rules.specs.Boards.{Board, Cell, at, cells, remove, solved, Puzzle}
-use Rattle.rules.specs.Propagation.{check}
+use Rattle.rules.specs.Boards.{Board, Cell, at, cells, Puzzle}
 use Rattle.rules.specs.Floats.{higher}
-use Rattle.rules.specs.Probing.{Run, CellQueue, startQueue, Notes, Probed, contradiction, probed, probe}
+use Rattle.rules.specs.Probing.{Run, CellQueue, Notes, probed, probe}
 use Rattle.rules.specs.Guesses.{Guess, guess, notesAt, rateAt, cellOrder, tally, colourOrder, choose}
-use Rattle.rules.specs.Search.{Limits, dead, notDead, Tried, tried, Node, node, spent, Pass, over, ranOut, among, others, firstUnsolved, met, probedNode, lone, afterGuess, passStep}
-use Rattle.rules.specs.Promises.{_⊑_, Distinct}
-use Rattle.rules.proofs.Tests.{on-test, on-number, on-option, by-equal, clash, or-false}
+use Rattle.rules.specs.Search.{dead, node, among, others, firstUnsolved}
+use Rattle.rules.specs.Promises.{Distinct}
+use Rattle.rules.proofs.Tests.{on-test, on-option, by-equal, clash, or-false}
 use Rattle.rules.proofs.Lists.{In, first-some, map-in, joined-in, getD-replicate-same, length-from, from-low}
 use Rattle.rules.proofs.Distinct.{append-distinct, map-distinct, distinct-few}
 use Rattle.rules.proofs.Sets.{member, member-low, members-distinct}
 use Rattle.rules.proofs.Boards.{row-of, column-of}
 use Rattle.rules.proofs.InOrder.{waits-low, inOrder-waits, inOrder-distinct}
-use Rattle.rules.proofs.Narrowing.{⊑-trans, sub-low, on-board, remove-sub}
 use Rattle.rules.proofs.Probing.{ProbedBelow, probe-below}
 use Rattle.rules.proofs.Ends.{among-in}
 use Rattle.rules.proofs.Noting.{Noted, ProbedNoted, probe-noted}
@@ -180,54 +177,3 @@ pub chosen-waiting : (z : Puzzle) (k : ℕ) (b : Board) (q : CellQueue) (s : Run
 chosen-waiting z k b q s {a} {ns} low e =
     let h = subst (ProbedBelow z b s) e (probe-below z b q s) .0 .long in
     subst (λ n. Waiting k n (choose a ns)) h (choose-waiting k a ns (subst (λ n. Noted k n ns) (sym h) (subst (ProbedNoted z k (length b)) e (probe-noted z k b low q s))))
-
--- ## A node: its board narrows, and its guesses have room, at each step of a pass
-
-module _ (z : Puzzle) (l : Limits) (try : Board → Cell → Colour → Run → Tried) (d : ℕ) (k : ℕ) (b₀ : Board) (low : (c : Cell) → at b₀ c < 2 ^ suc k) where
-  abbrev pub NodeRoom : Node → Type 0
-  NodeRoom (node b gs p made s) = (b ⊑ b₀) × Waiting k (length b₀) gs
-
-  abbrev pub PassRoom : Pass → Type 0
-  PassRoom (over e) = Unit {0}
-  PassRoom (ranOut (spent b p made s)) = b ⊑ b₀
-
-  TurnRoom : Turn Node Pass → Type 0
-  TurnRoom = Holds NodeRoom PassRoom
-
-  probed-room : (next : Board → List Guess) (made : List Guess) (b : Board) (s : Run) → b ⊑ b₀ → ((a : Board) → a ⊑ b₀ → Waiting k (length b₀) (next a)) → (r : Probed) → ProbedBelow z b s r →
-      TurnRoom (probedNode z l try d next made b r)
-  unfolding TurnRoom
-  probed-room next made b s h f (contradiction t) i = tt
-  probed-room next made b s h f (probed a ns t) i = on-test TurnRoom (solved a)
-      (λ _. on-test TurnRoom (check z a) (λ _. tt) (λ _. tt))
-      (λ _. let n = ⊑-trans (i .0) h in (n, f a n))
-
-  pub step-room : (t : Node) → NodeRoom t → Holds NodeRoom PassRoom (passStep z l try d t)
-  unfolding TurnRoom
-  step-room (node b [] p made s) i = i .0
-  step-room (node b (guess c x ∷ gs) p made s) i = on-number TurnRoom (met z l s d)
-      (λ _. on-test TurnRoom (has (at b c) x)
-      (λ h. on-test TurnRoom (single (at b c)) (λ _. alone p) (λ _. after h (try b c x s)))
-      (λ _. (i .0, rest)))
-      (λ m _. tt)
-    where
-      rest : Waiting k (length b₀) gs
-      rest = taken-waiting k (length b₀) (guess c x) gs (i .1)
-
-      alone : (q : Bool) → TurnRoom (lone z l try d b gs q made s)
-      alone true = (i .0, rest)
-      alone false = probed-room (λ a. gs) made b s (i .0) (λ a _. rest) (probe z b (startQueue z b) s) (probe-below z b (startQueue z b) s)
-
-      after : has (at b c) x ≡ true → (t : Tried) → TurnRoom (afterGuess z l try d b c x gs p made t)
-      after h (tried notDead t) = (i .0, rest)
-      after h (tried dead t) = let a = remove b c x in on-test TurnRoom (empty (at a c)) (λ _. tt)
-          (λ _. probed-room (λ e. others c x (colours (at e c)) gs) made a t (⊑-trans (remove-sub b c x) (i .0))
-          (λ e m. others-waiting k (length b₀) c x (colours (at e c)) gs (on h) (colours-low k (at e c) (sub-low c (2 ^ suc k) m (low c))) rest)
-          (probe z a (startQueue z a) t) (probe-below z a (startQueue z a) t))
-        where
-          on : has (at b c) x ≡ true → c < length b₀
-          on u = let v = on-board b c x u in let n = i .0 .long in omega arith
-
-  -- M3: new guesses when they have run out
-  pub refill-room : (b : Board) (p : Bool) (made : List Guess) (s : Run) → b ⊑ b₀ → NodeRoom (node b (firstUnsolved b) p made s)
-  refill-room b p made s h = (h, subst (λ n. Waiting k n (firstUnsolved b)) (h .long) (firstUnsolved-waiting k b (λ c. sub-low c (2 ^ suc k) h (low c))))

@@ -1,23 +1,21 @@
 -- The search keeps its promise, at every depth.
 use mathlib.Core.Path.{_≡_, refl, sym, subst}
-use mathlib.Core.Bool.{true}
 use mathlib.Core.List.{List}
-use Prim.Native.Nat.{ℕ, zero, suc, _+_, _*_, _≤_, _<_}
+use Prim.Native.Nat.{ℕ, zero, suc, _+_, _*_, _≤_}
 use native.Mathlib.Omega.{arith}
 use lib.ListN.{length}
-use Rattle.rules.specs.Sets.{Colour, has}
-use Rattle.rules.specs.Boards.{Board, Cell, at, put, Puzzle}
+use Rattle.rules.specs.Sets.{Colour}
+use Rattle.rules.specs.Boards.{Board, Cell, at, Puzzle}
 use Rattle.rules.specs.Probing.{Run, steps}
 use Rattle.rules.specs.Guesses.{Guess}
-use Rattle.rules.specs.Search.{Limits, dead, notDead, Left, left, Tried, tried, deeper, firstOf, note, met, nodeFrom, tryGuess, search}
+use Rattle.rules.specs.Search.{Limits, notDead, Left, left, Tried, deeper, firstOf, note, met, nodeFrom, tryGuess, search}
 use Rattle.rules.proofs.Tests.{on-number}
 use Rattle.rules.proofs.Narrowing.{⊑-refl}
 use Rattle.rules.proofs.Ends.{deep-met}
-use Rattle.rules.proofs.Fitting.{Playable}
-use Rattle.rules.proofs.Settling.{longest, dead-same, TriedSettled, LeftBehind, LeftSettled, GuessPromise, SearchPromise}
+use Rattle.rules.proofs.Settling.{longest, LeftBehind, LeftSettled, GuessPromise, SearchPromise}
 use Rattle.rules.proofs.Nodes.{node-keeps-promise}
 use Rattle.rules.proofs.Trying.{guess-keeps-promise}
-use Rattle.rules.proofs.Runs.{noted-limit, met-none, grown-same, grown-more, grown-note}
+use Rattle.rules.proofs.Runs.{noted-limit, grown-same, grown-more, grown-note}
 
 module _ (z : Puzzle) (l : Limits) (k : ℕ) (few : k ≤ 7) where
   open Limits l using (mostGrids, mostDepth, budget)
@@ -72,11 +70,3 @@ module _ (z : Puzzle) (l : Limits) (k : ℕ) (few : k ≤ 7) where
   pub try-keeps-promise : (r d : ℕ) → d + suc r ≡ suc mostDepth →
       GuessPromise z l k (budget + suc r * longest z k) (tryGuess z l (λ e hs t. search z l r (suc d) e hs t) (suc d))
   try-keeps-promise r d e = guess-keeps-promise z l k few (budget + suc r * longest z k) (λ a hs t. search z l r (suc d) a hs t) (suc d) (search-keeps-promise r (suc d) (omega arith)) (omega arith)
-
-  -- after a dead guess a grid more has room: nothing was stored
-  pub dead-stores-nothing : (r d : ℕ) → d + suc r ≡ suc mostDepth → (b : Board) (c : Cell) (x : Colour) (s t : Run) → Playable z k b → has (at b c) x ≡ true → met z l s d ≡ 0 →
-      tryGuess z l (λ e hs u. search z l r (suc d) e hs u) (suc d) b c x s ≡ tried dead t → (t .stored ≡ s .stored) × (length (t .stored) < mostGrids)
-  dead-stores-nothing r d e b c x s t p h m u =
-      let n = met-none z l s d m in
-      let same = dead-same z l (subst (TriedSettled z l (budget + suc r * longest z k) (put b c x) s) u (try-keeps-promise r d e b c x s p h (n .0) (n .1))) in
-      (same, subst (λ (g : List Board). length g < mostGrids) (sym same) (n .0))
