@@ -1,25 +1,24 @@
 -- The starting queue: the solved cells of each line are counted, and the unsolved cells are pushed, cell by cell.
-use mathlib.Core.Path.{_≡_, refl, sym, ap, ap₂, subst, _∙_}
-use mathlib.Core.Bool.{Bool, true, false, cond}
+use mathlib.Core.Path.{_≡_, sym, ap, ap₂, _∙_}
+use mathlib.Core.Bool.{Bool, true, false}
 use mathlib.Core.List.{List, map}
 use mathlib.Core.Option.{Option, none, some}
 use Prim.Native.Nat.{ℕ, _+_, _-_, _*_, _/_, _%_, _≤_, _<_}
-use native.Mathlib.Nat.{zero-add, add-zero, mod-lt}
+use native.Mathlib.Nat.{mod-lt}
 use native.Mathlib.Omega.{arith}
 use lib.Ieee.{Float}
-use lib.ListN.{length, getD, set, replicate, length-map, length-set}
+use lib.ListN.{length, getD, set, replicate, length-map}
 use lib.Seq.{getD-set-same, getD-set-other}
-use Rattle.rules.specs.Lists.{keep, from, digit}
+use Rattle.rules.specs.Lists.{keep, from}
 use Rattle.rules.specs.Sets.{single}
 use Rattle.rules.specs.Boards as Rules
 use Rattle.rules.specs.Boards.{Cell, at, Puzzle, rowOf, columnOf, lineCells, around}
 use Rattle.rules.specs.Queues.{push}
 use Rattle.rules.specs.Floats.{priorityOf, solvedOf, priority}
 use Rattle.rules.specs.Probing.{startQueue}
-use Rattle.rules.proofs.Tests.{by-test, by-equal}
-use Rattle.rules.proofs.Lists.{keep-turn, keep-same, keep-map}
+use Rattle.rules.proofs.Tests.{by-equal}
+use Rattle.rules.proofs.Lists.{keep-same, keep-map}
 use Rattle.rules.proofs.Boards.{line-low}
-use Rattle.rules.proofs.Sets.{digit-low}
 use Rattle.rules.proofs.Queues.{filled, filled-none, filled-all, filled-push, filled-pass}
 use Rattle.boards.specs.declared.board.Board.{Board}
 use Rattle.boards.specs.declared.line.Line.{Line}
@@ -29,9 +28,10 @@ use Rattle.boards.proofs.Places.{line-row, line-column, length-places}
 use Rattle.boards.proofs.Crossing.{place, line-cells, cell-row}
 use Rattle.queues.specs.declared.Queue.{Queue}
 use Rattle.queues.specs.Entries.{queueOf, Holds}
+use Rattle.queues.proofs.Entries.{Long, pushed, pushed-holds, pushed-long}
 use Rattle.probing.specs.Neighbours.{OfSize}
-use Rattle.probing.specs.Start.{SolvedOn, pushUnsolved}
-use Rattle.probing.proofs.Frames.{sizeOf, of-size, at-cell}
+use Rattle.probing.specs.Start.{SolvedOn, PriorityIs}
+use Rattle.probing.proofs.Frames.{at-cell}
 
 -- ## Solved cells of a line
 
@@ -63,16 +63,6 @@ solved-turn b solved i n s h f = record {
 
 pub solved-end : (b : Board) (solved : List ℕ) (n i : ℕ) → SolvedOn b i solved → n ≤ i → SolvedOn b n solved
 solved-end b solved n i s h = record { each = λ z o k l. s .each z o k (omega arith) }
-
--- ## One cell
-
-module _ (z : Puzzle) (b : Board) (c : Cell) (rowSolved columnSolved : ℕ) (q : Queue) where
-  pub solved-unpushed : single (at (boardOf b) c) ≡ true → q .n ≤ 256 → Holds (q .n) (pushUnsolved z b c rowSolved columnSolved (queueOf q)) q
-  solved-unpushed e h = rw e (record { size = refl; within = h; queue = refl })
-
-  pub unsolved-pushed : {p : Float} {n : ℕ} {r : Queue} → single (at (boardOf b) c) ≡ false → p ≡ priorityOf n rowSolved (b .w) columnSolved (b .h) → n ≡ length (around z (boardOf b) c) →
-      Holds (q .n) (push c p (queueOf q)) r → Holds (q .n) (pushUnsolved z b c rowSolved columnSolved (queueOf q)) r
-  unsolved-pushed e f g u = rw (e, ← g, ← f) u
 
 -- ## All cells
 
@@ -106,31 +96,44 @@ module _ (b : Board) (s : Sized b) (c : Cell) (h : c < b .w * b .h) (solved : Li
 -- the unsolved cells before i wait
 pub record Starting (b : Board) (q : Queue) (i : ℕ) : Type 0 where
   pub upto : i ≤ b .w * b .h
+  pub long : Long q
   pub size : q .n ≡ b .w * b .h
   pub within : q .n ≤ 256
   pub queue : (z : Puzzle) → OfSize z b → queueOf q ≡ filled (startsWith z (boardOf b)) (b .w * b .h) i
 
-module _ (b : Board) (q : Queue) where
-  pub starting-start : Holds (b .w * b .h) (replicate (b .w * b .h) none) q → Starting b q 0
-  starting-start u =
-      record { upto = omega arith; size = u .size; within = u .within; queue = λ z o. u .queue ∙ sym (filled-none (startsWith z (boardOf b)) (b .w * b .h)) }
+module _ (b : Board) where
+  pub starting-start : (q : Queue) → Long q → Holds (b .w * b .h) (replicate (b .w * b .h) none) q → Starting b q 0
+  starting-start q l u =
+      record { upto = omega arith; long = l; size = u .size; within = u .within; queue = λ z o. u .queue ∙ sym (filled-none (startsWith z (boardOf b)) (b .w * b .h)) }
 
-  pub starting-turn : (i : ℕ) (r : Queue) (solved : List ℕ) → Starting b q i → Sized b → i < b .w * b .h → SolvedOn b (b .h + b .w) solved →
-      ((z : Puzzle) → OfSize z b → Holds (q .n) (pushUnsolved z b i (getD solved (i / b .w) 0) (getD solved (b .h + i % b .w) 0) (queueOf q)) r) → Starting b r (i + 1)
-  starting-turn i r solved t s h on f =
-      let u = f (sizeOf b) (of-size b) in
-      record { upto = omega arith; size = u .size ∙ t .size; within = u .within; queue = λ z o. f z o .queue ∙ more z o }
-    where
-      more : (z : Puzzle) (o : OfSize z b) →
-          pushUnsolved z b i (getD solved (i / b .w) 0) (getD solved (b .h + i % b .w) 0) (queueOf q) ≡ filled (startsWith z (boardOf b)) (b .w * b .h) (i + 1)
-      more z o = by-test (single (at (boardOf b) i))
-          (λ e. rw e (t .queue z o ∙ sym (filled-pass (startsWith z (boardOf b)) (b .w * b .h) i (rw (e, startsWith)))))
-          (λ e. rw e (ap₂ (push i) (priority-is b s i h solved on z o) (t .queue z o) ∙ sym (filled-push (startsWith z (boardOf b)) (b .w * b .h) i (priority z (boardOf b) i) (rw (e, startsWith)))))
+  module _ (q : Queue) (i : ℕ) (t : Starting b q i) where
+    -- a solved cell is passed
+    pub starting-pass : i < b .w * b .h → single (at (boardOf b) i) ≡ true → Starting b q (i + 1)
+    starting-pass h e = record {
+      upto = omega arith;
+      long = t .long;
+      size = t .size;
+      within = t .within;
+      queue = λ z o. t .queue z o ∙ sym (filled-pass (startsWith z (boardOf b)) (b .w * b .h) i (rw (e, startsWith)));
+    }
 
-  pub starting-end : (i : ℕ) → Starting b q i → b .w * b .h ≤ i → length (boardOf b) ≡ b .w * b .h → (z : Puzzle) → OfSize z b → Holds (b .w * b .h) (startQueue z (boardOf b)) q
-  unfolding startQueue
-  starting-end i t h l z o = record {
-    size = t .size;
-    within = t .within;
-    queue = t .queue z o ∙ filled-all (startsWith z (boardOf b)) (b .w * b .h) i h ∙ ap (λ n. map (startsWith z (boardOf b)) (from 0 n)) (sym l);
-  }
+    pub starting-push : (p : Float) (solved : List ℕ) → Sized b → i < b .w * b .h → SolvedOn b (b .h + b .w) solved → single (at (boardOf b) i) ≡ false →
+        PriorityIs b i (getD solved (i / b .w) 0) (getD solved (b .h + i % b .w) 0) p → Starting b (pushed q i p) (i + 1)
+    starting-push p solved s h on e f =
+        let u = pushed-holds q i p (t .long) (t .within) in
+        record {
+          upto = omega arith;
+          long = pushed-long q i p (t .long);
+          size = t .size;
+          within = t .within;
+          queue = λ z o. u .queue ∙ ap₂ (push i) (f z o ∙ priority-is b s i h solved on z o) (t .queue z o)
+              ∙ sym (filled-push (startsWith z (boardOf b)) (b .w * b .h) i (priority z (boardOf b) i) (rw (e, startsWith)));
+        }
+
+    pub starting-end : b .w * b .h ≤ i → length (boardOf b) ≡ b .w * b .h → (z : Puzzle) → OfSize z b → Holds (b .w * b .h) (startQueue z (boardOf b)) q
+    unfolding startQueue
+    starting-end h l z o = record {
+      size = t .size;
+      within = t .within;
+      queue = t .queue z o ∙ filled-all (startsWith z (boardOf b)) (b .w * b .h) i h ∙ ap (λ n. map (startsWith z (boardOf b)) (from 0 n)) (sym l);
+    }

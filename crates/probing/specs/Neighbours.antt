@@ -1,18 +1,20 @@
 -- A cell's neighbours on a board by value.
 use mathlib.Core.Path.{_≡_}
-use mathlib.Core.Bool.{Bool, true, false, not, _&&_, cond}
-use mathlib.Core.List.{List, [], _∷_}
-use Prim.Native.Nat.{ℕ, _≤_, _<_}
-use lib.ListN.{getD}
+use mathlib.Core.Bool.{Bool, true, false, not}
+use mathlib.Core.List.{List, [], _∷_, _++_}
+use Prim.Native.Nat.{ℕ, _+_, _≤_, _<_}
+use lib.ListN.{length, getD, take}
 use Rattle.rules.specs.Lists.{keep}
 use Rattle.rules.specs.Sets.{single}
-use Rattle.rules.specs.Boards as Rules
-use Rattle.rules.specs.Boards.{Cell, at, Puzzle, around}
-use Rattle.rules.specs.Floats.{float}
-use Rattle.rules.specs.Probing.{CellQueue, pushAll}
+use Rattle.rules.specs.Boards.{Cell, Puzzle, around}
 use Rattle.boards.specs.declared.board.Board.{Board}
+use Rattle.boards.specs.Board.{boardOf}
 use Rattle.probing.specs.declared.neighbours.Neighbour.{Neighbour}
 use Rattle.probing.specs.declared.neighbours.Neighbour.the-variants.{At, Missing}
+
+-- the board with these cells
+abbrev pub boardAt : ℕ → ℕ → List ℕ → Board
+boardAt w h cells = record { w = w; h = h; cells = cells }
 
 -- a puzzle of the board's size
 pub record OfSize (z : Puzzle) (b : Board) : Type 0 where
@@ -36,9 +38,15 @@ oneIf true c = c ∷ []
 oneIf false c = []
 
 -- those of some cells that are unsolved
-abbrev pub unsolvedOf : Board → List Cell → List Cell
-unsolvedOf b cs = keep (λ c. not (single (getD (b .cells) c 0))) cs
+abbrev pub unsolvedOf : List ℕ → List Cell → List Cell
+unsolvedOf cells cs = keep (λ c. not (single (getD cells c 0))) cs
 
--- the unsolved neighbours of a cell are pushed with 10.0 if it is newly solved, its set having been s
-abbrev pub pushIfNew : Puzzle → ℕ → Rules.Board → Cell → CellQueue → CellQueue
-pushIfNew z s b c q = cond (not (single s) && single (at b c)) (pushAll (around z b c) (float 10) q) q
+-- cells are added to a list of places: where the first k were taken, the first r are
+pub record Adds (cs old : List Cell) (k : ℕ) (new : List Cell) (r : ℕ) : Type 0 where
+  pub count : r ≡ k + length cs
+  pub long : length new ≡ length old
+  pub first : take r new ≡ take k old ++ cs
+
+-- the unsolved neighbours of a cell are added, whatever puzzle the board is of
+abbrev pub AddsAround : Board → Cell → List Cell → ℕ → List Cell → ℕ → Type 0
+AddsAround b c old k new r = (z : Puzzle) → OfSize z b → Adds (around z (boardOf b) c) old k new r

@@ -4,16 +4,17 @@ use boards::Board;
 use cells::CellNo;
 use queues::Queue;
 ghost use mathlib.Core.Path.{_≡_};
-ghost use Prim.Native.Nat.{_+_, _*_, _≤_, _<_};
+ghost use Prim.Native.Nat.{_+_, _*_, _<_};
+ghost use lib.ListN.{length};
 ghost use Rattle.rules.specs.Lists.{digit};
 ghost use Rattle.rules.specs.Sets.{single};
 ghost use Rattle.rules.specs.Boards.{Puzzle, lineCells};
 ghost use Rattle.rules.specs.Floats.{solvedOf};
 ghost use Rattle.rules.specs.Probing.{startQueue};
 ghost use Rattle.boards.specs.Board.{boardOf, Sized};
-ghost use Rattle.queues.specs.Entries.{queueOf, Holds};
-ghost use Rattle.probing.specs.Neighbours.{OfSize};
-ghost use Rattle.probing.specs.Start.{SolvedOn, pushUnsolved};
+ghost use Rattle.queues.specs.Entries.{Holds};
+ghost use Rattle.probing.specs.Neighbours.{boardAt, OfSize};
+ghost use Rattle.probing.specs.Start.{SolvedOn, PriorityIs};
 
 // 1 if a cell with this set is solved.
 fn solved_at(s: u8) -> u8
@@ -23,18 +24,18 @@ fn solved_at(s: u8) -> u8
 }
 
 // How many of line i's cells are solved.
-fn solved_on(b: Board, i: usize) -> u8
-    requires { ⌜ Sized b × (i < b .h + b .w) ⌝ }
-    ensures { λ r. ⌜ ((z : Puzzle) → OfSize z b → r ≡ solvedOf (boardOf b) (lineCells z i)) ⌝ }
+fn solved_on(w: usize, h: usize, cells: &[u8], i: usize) -> u8
+    requires { ⌜ Sized (boardAt w h (now cells)) × (i < h + w) × (length (now cells) ≡ 256) ⌝ }
+    ensures { λ r. ⌜ ((z : Puzzle) → OfSize z (boardAt w h (now (cells .entry))) → r ≡ solvedOf (boardOf (boardAt w h (now (cells .entry)))) (lineCells z i)) ⌝ }
 {
-    let line = boards::line_of(b.w, b.h, i);
+    let line = boards::line_of(w, h, i);
     let start = line.start;
     let stride = line.stride;
     let len = line.len;
     let mut n: u8 = 0;
     let mut j: usize = 0;
     while j < len {
-        n += solved_at(b.cells[start + j * stride]);
+        n += solved_at(cells[start + j * stride]);
         j += 1;
     }
     n
@@ -45,33 +46,37 @@ fn solved_lines(b: Board) -> [u8; 32]
     requires { ⌜ Sized b ⌝ }
     ensures { λ r. ⌜ SolvedOn b (b .h + b .w) r ⌝ }
 {
-    let count = b.h + b.w;
+    let w = b.w;
+    let h = b.h;
+    let cells = b.cells;
+    let count = h + w;
     let mut solved = [0u8; 32];
     let mut i: usize = 0;
     while i < count {
-        solved[i] = solved_on(b, i);
+        solved[i] = solved_on(w, h, &cells, i);
         i += 1;
     }
     solved
 }
 
-// A cell is pushed with its priority if it is unsolved; this many cells of its row and of its column are solved.
-fn push_unsolved(b: Board, queue: Queue, c: CellNo, row_solved: u8, column_solved: u8) -> Queue
-    requires { ⌜ Sized b × (c .0 < b .w * b .h) × (queue .n ≤ 256) ⌝ }
-    ensures { λ r. ⌜ ((z : Puzzle) → OfSize z b → Holds (queue .n) (pushUnsolved z b (c .0) «row_solved» «column_solved» (queueOf queue)) r) ⌝ }
+// A cell's priority; this many cells of its row and of its column are solved.
+fn priority_at(
+    w: usize,
+    h: usize,
+    cells: &[u8],
+    c: CellNo,
+    row_solved: u8,
+    column_solved: u8,
+) -> f64
+    requires { ⌜ Sized (boardAt w h (now cells)) × (c .0 < w * h) ⌝ }
+    ensures { λ r. ⌜ PriorityIs (boardAt w h (now (cells .entry))) (c .0) «row_solved» «column_solved» r ⌝ }
 {
-    if cells::is_solved(b.cell(c)) {
-        return queue;
-    }
-    queue.push(
-        c,
-        rates::priority(
-            unsolved_neighbours(b, c),
-            row_solved,
-            b.w as u8,
-            column_solved,
-            b.h as u8,
-        ),
+    rates::priority(
+        unsolved_neighbours(w, h, cells, c),
+        row_solved,
+        w as u8,
+        column_solved,
+        h as u8,
     )
 }
 
@@ -83,12 +88,24 @@ pub fn unsolved_cells(b: Board) -> Queue
     let w = b.w;
     let h = b.h;
     let n = w * h;
+    let cells = b.cells;
     let solved = solved_lines(b);
-    let mut q = Queue::empty(n);
+    let mut waits = [0u8; 256];
+    let mut priority = [0.0; 256];
     let mut i: usize = 0;
     while i < n {
-        q = push_unsolved(b, q, CellNo(i as u16), solved[i / w], solved[h + i % w]);
+        if !cells::is_solved(cells[i]) {
+            waits[i] = 1;
+            priority[i] = priority_at(
+                w,
+                h,
+                &cells,
+                CellNo(i as u16),
+                solved[i / w],
+                solved[h + i % w],
+            );
+        }
         i += 1;
     }
-    q
+    Queue { n, waits, priority }
 }

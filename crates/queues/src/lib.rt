@@ -2,10 +2,10 @@
 ghost use mathlib.Core.Path.{_≡_};
 ghost use mathlib.Core.Option.{none};
 ghost use Prim.Native.Nat.{_≤_};
-ghost use lib.ListN.{set, replicate};
-ghost use Rattle.rules.specs.Lists.{from};
+ghost use lib.ListN.{replicate};
 ghost use Rattle.rules.specs.Floats.{higher};
 ghost use Rattle.rules.specs.Queues as Queues;
+ghost use Rattle.rules.specs.Probing.{pushAll};
 ghost use Rattle.queues.specs.Entries.{entry, queueOf, bestOf, Holds, PoppedFrom};
 use cells::CellNo;
 
@@ -75,55 +75,54 @@ impl Queue {
         q
     }
 
-    // The queue without a cell.
-    fn without(self, c: CellNo) -> Queue
+    // Cells wait with a priority, each as if it were pushed alone; the queue is copied once for all of them.
+    pub fn push_all(self, cells: &[u16], p: f64) -> Queue
         requires { ⌜ self .n ≤ 256 ⌝ }
-        ensures { λ r. ⌜ Holds (self .n) (set (queueOf self) (c .0) none) r ⌝ }
+        ensures { λ r. ⌜ Holds (self .n) (pushAll (now (cells .entry)) p (queueOf self)) r ⌝ }
     {
         let mut q = self;
-        let i = c.0 as usize;
-        if i < q.n {
-            q.waits[i] = 0;
+        let mut k: usize = 0;
+        while k < cells.len() {
+            let i = cells[k] as usize;
+            if i < q.n {
+                q.waits[i] = 1;
+                q.priority[i] = p;
+            }
+            k += 1;
         }
         q
     }
 
-    // The cell that goes first, of all.
-    fn leader(self) -> Best
+    // The cell that goes first of all, and the queue without it.
+    pub fn pop(self) -> Popped
         requires { ⌜ self .n ≤ 256 ⌝ }
-        ensures { λ r. ⌜ bestOf r ≡ Queues.leader higher (queueOf self) (from 0 (self .n)) none ⌝ }
+        ensures { λ r. ⌜ PoppedFrom self r ⌝ }
     {
+        let mut q = self;
         let mut best = Best {
             found: false,
             cell: CellNo(0),
             priority: 0.0,
         };
-        let mut i: usize = 0;
-        while i < self.n {
-            best = best.ahead(CellNo(i as u16), self.waits[i], self.priority[i]);
-            i += 1;
+        let mut k: usize = 0;
+        while k < q.n {
+            best = best.ahead(CellNo(k as u16), q.waits[k], q.priority[k]);
+            k += 1;
         }
-        best
-    }
-
-    // The cell that goes first, and the queue without it.
-    pub fn pop(self) -> Popped
-        requires { ⌜ self .n ≤ 256 ⌝ }
-        ensures { λ r. ⌜ PoppedFrom self r ⌝ }
-    {
-        let best = self.leader();
         let c = best.cell;
-        if best.found {
+        if !best.found {
             return Popped {
-                found: true,
+                found: false,
                 cell: c,
-                queue: self.without(c),
+                queue: q,
             };
         }
+        let i = c.0 as usize;
+        q.waits[i] = 0;
         Popped {
-            found: false,
+            found: true,
             cell: c,
-            queue: self,
+            queue: q,
         }
     }
 }

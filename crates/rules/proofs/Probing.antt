@@ -1,15 +1,15 @@
 -- Probing ends by itself, narrows the board, and only adds events to a run.
 use mathlib.Core.Path.{_≡_, refl, sym, ap, subst, _∙_}
 use mathlib.Core.Logic.{_⊎_, inl, inr}
-use mathlib.Core.Bool.{Bool, true, false, not, cond, true≢false, false≢true}
+use mathlib.Core.Bool.{true, false, not, true≢false, false≢true}
 use mathlib.Core.List.{List, [], _∷_, _++_, map, List·Memᴰ·head, List·Memᴰ·tail, List·Memᴰ·cases-cons, List·Memᴰ·not-nil}
 use mathlib.Core.Option.{Option, none, some}
-use Prim.Native.Nat.{ℕ, zero, suc, _+_, _-_, _*_, _≤_, _<_}
+use Prim.Native.Nat.{ℕ, zero, suc, _+_, _*_, _≤_, _<_}
 use native.Mathlib.Nat.{mul-le-mul-right}
 use native.Mathlib.Omega.{arith}
 use lib.ListN.{length, getD, set, length-set}
 use lib.Ieee.{Float}
-use Rattle.rules.specs.Lists.{keep, from}
+use Rattle.rules.specs.Lists.{joined}
 use Rattle.rules.specs.Loops.{Turn, more, stop, Holds, run, Falls}
 use Rattle.rules.specs.Sets.{Colour, has, members, colours, empty}
 use Rattle.rules.specs.Queues.{Queue, push, waiting, pop}
@@ -17,8 +17,8 @@ use Rattle.rules.specs.Boards.{Board, Cell, at, put, removeAll, solved, 
 use Rattle.rules.specs.Propagation.{propagate}
 use Rattle.rules.specs.Floats.{float, higher}
 use Rattle.rules.specs.Probing.{Event, assumed, Run, steps, event, CellQueue, pushAll, Notes, noNotes, Probing, probing, Probed, contradiction, probed, contradicting, solving, assumedAll, startQueue, pushAround, pushBoth, assume, outcomes, newRound, cut, judge, probeCell, probeStep, probeMeasure, probeUnended, probeOn, probe}
-use Rattle.rules.proofs.Tests.{on-test, on-option, by-test, clash}
-use Rattle.rules.proofs.Lists.{In, keep-few, keep-more, from-low, map-in}
+use Rattle.rules.proofs.Tests.{on-test, on-option, clash}
+use Rattle.rules.proofs.Lists.{In, keep-few, from-low, map-in}
 use Rattle.rules.proofs.Loops.{run-is, run-ends}
 use Rattle.rules.proofs.Sets.{member}
 use Rattle.rules.proofs.Queues.{Popped, pop-some, pop-long, pop-fewer, waiting-few}
@@ -76,11 +76,11 @@ module _ (z : Puzzle) where
   pub pushBoth-long : (b : Board) (c : Cell) (new : List Cell) (q : CellQueue) → length (pushBoth z b c new q) ≡ length q
   pushBoth-long b c new q = pushAround-long b (c ∷ []) (float 20) (pushAround z b new (float 10) q) ∙ pushAround-long b new (float 10) q
 
-  -- the cells that pass a test, from cell i on, at a turn: cell i where it passes, and those after it
-  pub pushAround-turn : (b : Board) (t : Cell → Bool) (i n : ℕ) (p : Float) (q : CellQueue) → i < n →
-      pushAround z b (keep t (from i (n - i))) p q ≡ pushAround z b (keep t (from (i + 1) (n - (i + 1)))) p (cond (t i) (pushAll (around z b i) p q) q)
-  unfolding pushAround
-  pushAround-turn b t i n p q h = rw (keep-more t i n h) (by-test (t i) (λ e. rw e) (λ e. rw e))
+  -- all that is pushed, one after the other
+  pub pushAround-joined : (b : Board) (cs : List Cell) (p : Float) (q : CellQueue) → pushAround z b cs p q ≡ pushAll (joined (map (around z b) cs)) p q
+  unfolding pushAround pushAll
+  pushAround-joined b [] p q = refl
+  pushAround-joined b (c ∷ cs) p q = pushAround-joined b cs p (pushAll (around z b c) p q) ∙ sym (pushAll-append (around z b c) (joined (map (around z b) cs)) p q)
 
   assume-none : (b : Board) (c : Cell) (x : Colour) → assume z b c x ≡ none → propagate z (put b c x) c ≡ none
   assume-none b c x e = go (propagate z (put b c x) c) e

@@ -11,26 +11,27 @@ use Rattle.boards.specs.Line.{Reaches}
 use Rattle.boards.proofs.Sizes.{few-cells}
 use Rattle.boards.proofs.Places.{small}
 use Rattle.boards.proofs.Crossing.{reaches}
+use Rattle.probing.specs.Neighbours.{boardAt}
 use Rattle.probing.proofs.Starting.{solvedAt, solved-line}
 use Rattle.probing.proofs.start.solved_on.Statement.{statement}
 use Rattle.probing.proofs.start.solved_on.Tie as tie
 
 abbrev Inv-loop : tie.InvT-loop
-Inv-loop i b start stride len n₀ j₀ n j = Counted (solvedAt b (record { start = start; stride = stride; len = len })) len n j
+Inv-loop w h cells i start stride len n₀ j₀ n j = Counted (solvedAt (boardAt w h cells) (record { start = start; stride = stride; len = len })) len n j
 
 abbrev μ-loop : tie.MeasureT-loop
-μ-loop i b start stride len n₀ j₀ n j = len - j
+μ-loop w h cells i start stride len n₀ j₀ n j = len - j
 
 line-of-requires : tie.Need-line-of-requires Inv-loop μ-loop
-line-of-requires c κs = (c .pre .0 .narrow, (c .pre .0 .low, c .pre .1))
+line-of-requires c κs = let p = c .before .pre in (p .0 .narrow, (p .0 .low, p .1))
 
 loop-holds : tie.Need-loop-holds Inv-loop μ-loop
 loop-holds c = counted-start _ _
 
 -- the line that is counted
 found : (c : tie.After-line-of Inv-loop μ-loop) → Reaches (c .line-of .result) 256
-found c = let s = c .before in let b = s .args .t1 in
-    rw (c .line-of .ensures) (reaches (b .w) (b .h) (s .args .i) 256 (s .pre .0 .narrow) (s .pre .0 .low) (s .pre .1) (few-cells b (s .pre .0)))
+found c = let s = c .before .before in let a = s .args in
+    rw (c .line-of .ensures) (reaches (a .w) (a .h) (a .i) 256 (s .pre .0 .narrow) (s .pre .0 .low) (s .pre .1) (few-cells (boardAt (a .w) (a .h) (a .cells .now)) (s .pre .0)))
 
 mul-solved-at : tie.Need-mul-solved-at Inv-loop μ-loop
 mul-solved-at c = record { fits = omega (arith, small (found (c .before .before)) (c .before .loop .j) (c .loop-test .taken)) }
@@ -38,14 +39,16 @@ mul-solved-at c = record { fits = omega (arith, small (found (c .before .before)
 add-solved-at : tie.Need-add-solved-at Inv-loop μ-loop
 add-solved-at c = let r = found (c .before .before) in record { fits = omega (arith, small r (c .before .loop .j) (c .loop-test .taken), r .near) }
 
-element-copy-out-solved-at : tie.Need-element-copy-out-solved-at Inv-loop μ-loop
-element-copy-out-solved-at c = found (c .before .before) .inside (c .before .loop .j) (c .loop-test .taken)
+shared-slice-read-solved-at : tie.Need-shared-slice-read-solved-at Inv-loop μ-loop
+shared-slice-read-solved-at c =
+    let t = c .before in
+    omega (arith, found (t .before .before) .inside (t .before .loop .j) (t .loop-test .taken), t .before .before .before .before .pre .2)
 
 solved-at-requires : tie.Need-solved-at-requires Inv-loop μ-loop
 solved-at-requires c κs = search needs
 
-turned : (c : tie.After-solved-at Inv-loop μ-loop) → let l = c .before .before .before .loop in let s = c .before .before .before .before in
-    Counted (solvedAt (s .before .args .t1) (s .line-of .result)) (s .line-of .result .len) (l .n + c .solved-at .result) (l .j + 1)
+turned : (c : tie.After-solved-at Inv-loop μ-loop) → let l = c .before .before .before .loop in let n = c .before .before .before .before in let a = n .before .before .args in
+    Counted (solvedAt (boardAt (a .w) (a .h) (a .cells .now)) (n .line-of .result)) (n .line-of .result .len) (l .n + c .solved-at .result) (l .j + 1)
 turned c =
     let l = c .before .before .before .loop in
     counted-turn _ _ (l .n) (l .j) (l .inv) (c .solved-at .result) (c .before .before .loop-test .taken) (c .solved-at .ensures)
@@ -66,10 +69,11 @@ returns : tie.Need-returns Inv-loop μ-loop
 returns c z o =
     let l = c .before .loop in
     let n = c .before .before in
-    let s = n .before in
+    let s = n .before .before in
+    let b = boardAt (s .args .w) (s .args .h) (s .args .cells .now) in
     counted-end _ _ (l .n) (l .j) (l .inv) (c .loop-test .left)
-    ∙ ap (λ (l : Line). length (keep (solvedAt (s .args .t1) l) (from 0 (l .len)))) (n .line-of .ensures)
-    ∙ solved-line (s .args .t1) (s .args .i) (s .pre .1) z o
+    ∙ ap (λ (l : Line). length (keep (solvedAt b l) (from 0 (l .len)))) (n .line-of .ensures)
+    ∙ solved-line b (s .args .i) (s .pre .1) z o
 
 pub solved-on-spec : {M : Type 1} → statement M
 solved-on-spec =
@@ -81,7 +85,7 @@ solved-on-spec =
     loop-holds
     mul-solved-at
     add-solved-at
-    element-copy-out-solved-at
+    shared-slice-read-solved-at
     solved-at-requires
     add-n
     add-j

@@ -1,36 +1,44 @@
 -- The invariant: the unsolved cells passed wait, each with its priority. The measure is what is left of the cells.
+use mathlib.Core.Path.{refl, sym, ap, _∙_}
+use mathlib.Core.Logic.{⊎-elim}
 use Prim.Native.Nat.{_-_, _/_, _%_, _<_}
 use native.Mathlib.Nat.{mod-lt}
 use native.Mathlib.Omega.{arith}
+use borrow.Author.Needs.{needs}
+use borrow.Author.Tests.{not-true, not-false}
+use Rattle.rules.specs.Sets.{single}
 use Rattle.boards.proofs.Sizes.{board-cells, few-cells, board-length}
 use Rattle.boards.proofs.Crossing.{cell-row}
-use Rattle.probing.proofs.Starting.{Starting, starting-start, starting-turn, starting-end}
+use Rattle.queues.proofs.Entries.{empty-holds}
+use Rattle.probing.specs.Neighbours.{boardAt}
+use Rattle.probing.proofs.Frames.{at-cell}
+use Rattle.probing.proofs.Starting.{Starting, starting-start, starting-pass, starting-push, starting-end}
 use Rattle.probing.proofs.start.unsolved_cells.Statement.{statement}
 use Rattle.probing.proofs.start.unsolved_cells.Tie as tie
 
 abbrev Inv-loop : tie.InvT-loop
-Inv-loop b w h n solved q₀ i₀ q i = Starting b q i
+Inv-loop w h n cells solved waits₀ priority₀ i₀ waits priority i = Starting (boardAt w h cells) (record { n = n; waits = waits; priority = priority }) i
 
 abbrev μ-loop : tie.MeasureT-loop
-μ-loop b w h n solved q₀ i₀ q i = n - i
+μ-loop w h n cells solved waits₀ priority₀ i₀ waits priority i = n - i
 
 mul-n : tie.Need-mul-n Inv-loop μ-loop
 mul-n c = record { fits = omega (arith, few-cells (c .args .b) (c .pre)) }
 
 solved-lines-requires : tie.Need-solved-lines-requires Inv-loop μ-loop
-solved-lines-requires c κs = c .pre
-
-empty-requires : tie.Need-empty-requires Inv-loop μ-loop
-empty-requires c κs = few-cells (c .before .args .b) (c .before .pre)
+solved-lines-requires c κs = c .before .pre
 
 loop-holds : tie.Need-loop-holds Inv-loop μ-loop
-loop-holds c = starting-start (c .before .before .args .b) (c .empty .result) (c .empty .ensures)
+loop-holds c =
+    let s = c .before .before in
+    let few = few-cells (s .args .b) (s .pre) in
+    starting-start (s .args .b) _ (record { waits = refl; priority = refl }) (empty-holds _ _ few)
 
-cast-t10 : tie.Need-cast-t10 Inv-loop μ-loop
-cast-t10 c = let s = c .before .before .before .before in omega (arith, few-cells (s .args .b) (s .pre))
+array-read-is-solved : tie.Need-array-read-is-solved Inv-loop μ-loop
+array-read-is-solved c = let s = c .before .before .before .before in omega (arith, few-cells (s .args .b) (s .pre), c .loop-test .taken, board-cells (s .args .b) _ (s .good .0))
 
-div-push-unsolved : tie.Need-div-push-unsolved Inv-loop μ-loop
-div-push-unsolved c = omega arith
+is-solved-requires : tie.Need-is-solved-requires Inv-loop μ-loop
+is-solved-requires c κs = search needs
 
 row : (c : tie.In-loop Inv-loop μ-loop) → let b = c .before .before .before .before .args .b in c .before .loop .i / b .w < b .h
 row c = let s = c .before .before .before .before in cell-row (s .args .b .w) (s .args .b .h) (c .before .loop .i) (s .pre .wide) (c .loop-test .taken)
@@ -38,40 +46,64 @@ row c = let s = c .before .before .before .before in cell-row (s .args .b .w) (s
 column : (c : tie.In-loop Inv-loop μ-loop) → let b = c .before .before .before .before .args .b in c .before .loop .i % b .w < b .w
 column c = mod-lt (c .before .loop .i) (c .before .before .before .before .pre .wide)
 
-array-read-push-unsolved : tie.Need-array-read-push-unsolved Inv-loop μ-loop
-array-read-push-unsolved c = omega (arith, row c)
+array-write-waits : tie.Need-array-write-waits Inv-loop μ-loop
+array-write-waits c = let t = c .before .before in let l = t .before .loop .inv in omega (arith, t .loop-test .taken, l .within, l .long .waits)
 
-rem-push-unsolved : tie.Need-rem-push-unsolved Inv-loop μ-loop
-rem-push-unsolved c = omega arith
+slice-aggregate-priority-at : tie.Need-slice-aggregate-priority-at Inv-loop μ-loop
+slice-aggregate-priority-at c = let s = c .before .before .before .before .before .before .before in sym (board-cells (s .args .b) _ (s .good .0))
 
-add-push-unsolved : tie.Need-add-push-unsolved Inv-loop μ-loop
-add-push-unsolved c = omega (arith, column c)
+cast-t21 : tie.Need-cast-t21 Inv-loop μ-loop
+cast-t21 c = let t = c .before .before .before in omega (arith, t .loop-test .taken, t .before .loop .inv .within)
 
-array-read-push-unsolved-2 : tie.Need-array-read-push-unsolved-2 Inv-loop μ-loop
-array-read-push-unsolved-2 c = omega (arith, column c)
+div-priority-at : tie.Need-div-priority-at Inv-loop μ-loop
+div-priority-at c = let s = c .before .before .before .before .before .before .before in omega (arith, s .pre .wide)
 
-push-unsolved-requires : tie.Need-push-unsolved-requires Inv-loop μ-loop
-push-unsolved-requires c κs = (c .before .before .before .before .pre, c .loop-test .taken, c .before .loop .inv .within)
+array-read-priority-at : tie.Need-array-read-priority-at Inv-loop μ-loop
+array-read-priority-at c = let s = c .before .before .before .before .before .before .before in omega (arith, row (c .before .before .before), s .pre .low)
+
+rem-priority-at : tie.Need-rem-priority-at Inv-loop μ-loop
+rem-priority-at c = let s = c .before .before .before .before .before .before .before in omega (arith, s .pre .wide)
+
+add-priority-at : tie.Need-add-priority-at Inv-loop μ-loop
+add-priority-at c = let s = c .before .before .before .before .before .before .before in omega (arith, column (c .before .before .before), s .pre .narrow, s .pre .low)
+
+array-read-priority-at-2 : tie.Need-array-read-priority-at-2 Inv-loop μ-loop
+array-read-priority-at-2 c = let s = c .before .before .before .before .before .before .before in omega (arith, column (c .before .before .before), s .pre .narrow, s .pre .low)
+
+priority-at-requires : tie.Need-priority-at-requires Inv-loop μ-loop
+priority-at-requires c κs = (c .before .before .before .before .before .before .before .pre, c .before .before .before .loop-test .taken)
+
+mul-priority : tie.Need-mul-priority Inv-loop μ-loop
+mul-priority c = let t = c .before .before .before .before in omega (arith, t .loop-test .taken, t .before .loop .inv .within)
+
+array-write-priority : tie.Need-array-write-priority Inv-loop μ-loop
+array-write-priority c = let t = c .before .before .before .before in let l = t .before .loop .inv in omega (arith, t .loop-test .taken, l .within, l .long .priority)
 
 add-i : tie.Need-add-i Inv-loop μ-loop
-add-i c = let s = c .before .before .before .before .before in omega (arith, few-cells (s .args .b) (s .pre))
+add-i c = let t = c .before .before in omega (arith, t .loop-test .taken, t .before .loop .inv .within)
 
 loop-less : tie.Need-loop-less Inv-loop μ-loop
 loop-less c = omega arith
 
 loop-again : tie.Need-loop-again Inv-loop μ-loop
 loop-again c =
-    let l = c .before .before .loop in
-    let n = c .before .before .before .before in
-    let s = n .before in
-    starting-turn (s .args .b) (l .q) (l .i) (c .push-unsolved .result) (n .solved-lines .result) (l .inv) (s .pre) (c .before .loop-test .taken) (n .solved-lines .ensures)
-    (c .push-unsolved .ensures)
+    let t = c .before .before in
+    let l = t .before .loop in
+    let n = t .before .before in
+    let s = n .before .before in
+    let b = s .args .b in
+    let h = t .loop-test .taken in
+    let said = ap single (at-cell b (l .i) h) ∙ sym (c .before .is-solved .ensures) in
+    ⊎-elim
+    (λ w. rw (w .3, w .4) (starting-push b _ (l .i) (l .inv) _ (n .solved-lines .result) (s .pre) h (n .solved-lines .ensures) (said ∙ not-true _ (w .0 .taken)) (w .2 .ensures)))
+    (λ w. rw (w .1, w .2) (starting-pass b _ (l .i) (l .inv) h (said ∙ not-false _ (w .0 .left))))
+    (c .if1 .came)
 
 returns : tie.Need-returns Inv-loop μ-loop
 returns c =
     let l = c .before .loop in
     let s = c .before .before .before .before in
-    starting-end (s .args .b) (l .q) (l .i) (l .inv) (c .loop-test .left) (board-length (s .args .b) (s .pre) (board-cells (s .args .b) _ (s .good .0)))
+    starting-end (s .args .b) _ (l .i) (l .inv) (c .loop-test .left) (board-length (s .args .b) (s .pre) (board-cells (s .args .b) _ (s .good .0)))
 
 pub unsolved-cells-spec : {M : Type 1} → statement M
 unsolved-cells-spec =
@@ -81,15 +113,20 @@ unsolved-cells-spec =
     μ-loop
     mul-n
     solved-lines-requires
-    empty-requires
     loop-holds
-    cast-t10
-    div-push-unsolved
-    array-read-push-unsolved
-    rem-push-unsolved
-    add-push-unsolved
-    array-read-push-unsolved-2
-    push-unsolved-requires
+    array-read-is-solved
+    is-solved-requires
+    array-write-waits
+    slice-aggregate-priority-at
+    cast-t21
+    div-priority-at
+    array-read-priority-at
+    rem-priority-at
+    add-priority-at
+    array-read-priority-at-2
+    priority-at-requires
+    mul-priority
+    array-write-priority
     add-i
     loop-less
     loop-again
