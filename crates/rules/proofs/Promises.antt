@@ -28,6 +28,7 @@ use Rattle.rules.proofs.Accepting.{accepted-searched, accepted-sized, a
 use Rattle.rules.proofs.Fitting.{Playable, fits-long, fits-wider, fits-one, check-fits, unchecked-none}
 use Rattle.rules.proofs.Keeping.{NoneFits, Deduced, deduced-none, ProbedSound, probe-sound}
 use Rattle.rules.proofs.Steps.{mostProbing-few}
+use Rattle.rules.proofs.Order.{any-order}
 use Rattle.rules.proofs.Settling.{LeftBehind, LeftSettled, longest}
 use Rattle.rules.proofs.Searching.{search-keeps-promise}
 
@@ -183,5 +184,6 @@ module _ (a : Asked) (clues : List Clue) (y : Accepted a clues) where
 pub solve-promised : (a : Asked) → Promised a (solve a)
 solve-promised a = record {
   promise = λ clues y. subst (λ r. Promise (puzzleOf a clues) (limitsOf a) (a .k) (a .cells) (ofAnswer a r)) (sym (accepted-searched a clues y)) (searched-promise a clues y);
+  any-order = λ clues y b c e h. any-order (puzzleOf a clues) b c e h;
   most-steps = solve-cases a (λ r. r .steps ≤ a .budget + (a .mostDepth + 2) * 787_456) (λ n. omega arith) (searched-steps a);
 }

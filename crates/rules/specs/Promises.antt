@@ -72,6 +72,24 @@ pub record Promise (z : Puzzle) (l : Limits) (k : ℕ) (given : Board) (r : Resu
   -- The run ends, and its steps are at most the budget and (most depth + 2) runs of probing.
   pub steps-few : r .steps ≤ l .budget + (l .mostDepth + 2) * mostProbing k (length given)
 
+-- ## Order does not matter in propagation
+
+-- the lines that are pending when propagating from a cell starts: its row and column
+abbrev pub linesOf : Puzzle → Cell → ℕ
+linesOf z c = setOf (lineCount z) (λ j. eqb j (rowOf z c) || eqb j (columnOf z c))
+
+-- Propagating where any pending line may be the next, so that there may be many ways to go: from a board and its pending lines to the board at the end, when nothing
+-- is pending, or to none at a contradiction.
+pub data Reaches (z : Puzzle) : Board → ℕ → Option Board → Type 0 where
+  ended : {b : Board} {p : ℕ} → ((i : ℕ) → i < lineCount z → has p i ≡ false) → Reaches z b p (some b)
+  contradicted : {b : Board} {p : ℕ} (i : ℕ) → i < lineCount z → has p i ≡ true → reduce (clueAt z i) (lineOf z b i) ≡ none → Reaches z b p none
+  onward : {b : Board} {p : ℕ} {r : Option Board} (i : ℕ) (sets : List ℕ) → i < lineCount z → has p i ≡ true → reduce (clueAt z i) (lineOf z b i) ≡ some sets →
+      Reaches z (write b (lineCells z i) sets) (pend z i b (write b (lineCells z i) sets) p) r → Reaches z b p r
+
+-- whichever way it goes from a cell, it comes to what `propagate` gives: `any-order` of `proofs/Order.antt`
+abbrev pub AnyOrder : Puzzle → Board → Cell → Type 0
+AnyOrder z b c = (r : Option Board) → Reaches z b (linesOf z c) r → r ≡ propagate z b c
+
 -- ## What is given back by the rules, and in bytes
 
 -- an outcome of the rules; a dead end leaves the board as it was given
@@ -109,23 +127,7 @@ limitsOf a = record { mostGrids = a .mostGrids; mostDepth = a .mostDepth; budget
 pub record Promised (a : Asked) (r : Answer) : Type 0 where
   -- Where the input is accepted, all of the above holds of the answer.
   pub promise : (clues : List Clue) → Accepted a clues → Promise (puzzleOf a clues) (limitsOf a) (a .k) (a .cells) (ofAnswer a r)
+  -- Order does not matter in propagation: on any board of its size, whichever pending lines are taken first, it comes to the same contradiction or the same board.
+  pub any-order : (clues : List Clue) → Accepted a clues → (b : Board) (c : Cell) → length b ≡ a .w * a .h → ((e : Cell) → at b e < 256) → AnyOrder (puzzleOf a clues) b c
   -- The steps are at most budget + (most depth + 2)·787,456.
   pub most-steps : r .steps ≤ a .budget + (a .mostDepth + 2) * 787_456
-
--- ## Order does not matter in propagation
-
--- the lines that are pending when propagating from a cell starts: its row and column
-abbrev pub linesOf : Puzzle → Cell → ℕ
-linesOf z c = setOf (lineCount z) (λ j. eqb j (rowOf z c) || eqb j (columnOf z c))
-
--- Propagating where any pending line may be the next, so that there may be many ways to go: from a board and its pending lines to the board at the end, when nothing
--- is pending, or to none at a contradiction.
-pub data Reaches (z : Puzzle) : Board → ℕ → Option Board → Type 0 where
-  ended : {b : Board} {p : ℕ} → ((i : ℕ) → i < lineCount z → has p i ≡ false) → Reaches z b p (some b)
-  contradicted : {b : Board} {p : ℕ} (i : ℕ) → i < lineCount z → has p i ≡ true → reduce (clueAt z i) (lineOf z b i) ≡ none → Reaches z b p none
-  onward : {b : Board} {p : ℕ} {r : Option Board} (i : ℕ) (sets : List ℕ) → i < lineCount z → has p i ≡ true → reduce (clueAt z i) (lineOf z b i) ≡ some sets →
-      Reaches z (write b (lineCells z i) sets) (pend z i b (write b (lineCells z i) sets) p) r → Reaches z b p r
-
--- whichever way it goes from a cell, it comes to what `propagate` gives: `any-order` of `proofs/Order.antt`
-abbrev pub AnyOrder : Puzzle → Board → Cell → Type 0
-AnyOrder z b c = (r : Option Board) → Reaches z b (linesOf z c) r → r ≡ propagate z b c
