@@ -4,7 +4,7 @@ use mathlib.Core.Bool.{Bool}
 use mathlib.Core.List.{List, [], _∷_, map}
 use Prim.Native.Nat.{ℕ, _+_, _-_, _≤_, _<_}
 use native.Mathlib.Omega.{arith}
-use lib.ListN.{length, length-map, set}
+use lib.ListN.{length, length-map, length-set, set}
 use lib.Seq.{getD-set-same, getD-set-other}
 use mir.Val.{Val}
 use denote.Laws.{Is}
@@ -48,8 +48,11 @@ rest g h = record { within = omega arith; guesses = ap (map (guessAt g)) (from-m
 
 -- ## Putting a guess before the others
 
-abbrev pushed : Guesses → ℕ → ℕ → Guesses
+abbrev pub pushed : Guesses → ℕ → ℕ → Guesses
 pushed g c x = let i = g .head - 1 in record { head = i; cells = set (g .cells) i c; colours = set (g .colours) i x }
+
+pub pushed-long : (g : Guesses) (c x : ℕ) → Long g → Long (pushed g c x)
+pushed-long g c x l = let i = g .head - 1 in record { cells = length-set (g .cells) i c ∙ l .cells; colours = length-set (g .colours) i x ∙ l .colours }
 
 pushed-waits : (g : Guesses) (c x : ℕ) → Long g → 0 < g .head → g .head ≤ 1024 → guessesOf (pushed g c x) ≡ Rules.guess c x ∷ guessesOf g
 unfolding guessesOf

@@ -13,7 +13,6 @@ ghost use Rattle.guesses.specs.Choosing.{Ordered};
 use crate::waiting::Guesses;
 use boards::Board;
 use cells::CellNo;
-use cells::Colour;
 use notes::Notes;
 use queues::Queue;
 
@@ -23,7 +22,7 @@ struct Cells {
     cells: [u16; 256],
 }
 
-// The cells that wait in a queue, popped one after the other.
+// The cells that wait in a queue, taken out one after the other.
 fn in_order(q: Queue) -> Cells
     requires { ⌜ q .n ≤ 256 ⌝ }
     ensures { λ r. ⌜ Ordered (inOrder higher (queueOf q)) r ⌝ }
@@ -32,12 +31,14 @@ fn in_order(q: Queue) -> Cells
     let mut cells = [0; 256];
     let mut n: usize = 0;
     while n < 256 {
-        let p = left.pop();
-        if !p.found {
+        let best = queues::leader(left.n, &left.waits, &left.priority);
+        if !best.found {
             return Cells { n, cells };
         }
-        cells[n] = p.cell.0;
-        left = p.queue;
+        let c = best.cell.0;
+        let i = c as usize;
+        cells[n] = c;
+        left.waits[i] = 0;
         n += 1;
     }
     Cells { n, cells }
@@ -53,7 +54,7 @@ fn ranked(b: Board, notes: Notes) -> Cells
     in_order(notes::cell_order(notes, &cells[..n]))
 }
 
-// A cell's colours, the one that solves most first, come to wait before the guesses that wait.
+// A cell's colours, the one that solves most first, come to wait before the guesses that wait, where there is room.
 fn with_cell(g: Guesses, notes: Notes, c: CellNo) -> Guesses
     requires { ⌜ (g .head ≤ 1024) × (notes .n ≤ 256) ⌝ }
     ensures { λ r. ⌜ IfRoom (map (guess (c .0)) (colourOrder (notesOf notes) (c .0)) ++ guessesOf g) r ⌝ }
@@ -63,7 +64,12 @@ fn with_cell(g: Guesses, notes: Notes, c: CellNo) -> Guesses
     let mut j = order.n;
     while j > 0 {
         j -= 1;
-        r = r.push(c, Colour(order.colours[j]));
+        if 0 < r.head {
+            let i = r.head - 1;
+            r.cells[i] = c.0;
+            r.colours[i] = order.colours[j];
+            r.head = i;
+        }
     }
     r
 }

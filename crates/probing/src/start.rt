@@ -90,13 +90,12 @@ pub fn unsolved_cells(b: Board) -> Queue
     let n = w * h;
     let cells = b.cells;
     let solved = solved_lines(b);
-    let mut waits = [0u8; 256];
-    let mut priority = [0.0; 256];
+    let mut q = Queue::empty(n);
     let mut i: usize = 0;
     while i < n {
         if !cells::is_solved(cells[i]) {
-            waits[i] = 1;
-            priority[i] = priority_at(
+            q.waits[i] = 1;
+            q.priority[i] = priority_at(
                 w,
                 h,
                 &cells,
@@ -107,5 +106,5 @@ pub fn unsolved_cells(b: Board) -> Queue
         }
         i += 1;
     }
-    Queue { n, waits, priority }
+    q
 }

@@ -11,15 +11,14 @@ use lib.Ieee.{Float, nan}
 use mir.Val.{Val}
 use denote.Laws.{Is}
 use denote.Struct.Declared.{row}
-use Rattle.rules.specs.Lists.{from}
-use Rattle.rules.specs.Queues.{push, leader, pop}
+use Rattle.rules.specs.Queues.{push, pop}
 use Rattle.rules.specs.Floats.{higher}
 use Rattle.rules.specs.Probing.{pushAll}
 use Rattle.rules.proofs.Given.{length-given, given-at, given-alike, given-set}
 use Rattle.rules.proofs.Queues.{pop-some, pop-low}
 use Rattle.queues.specs.declared.Queue.{Queue}
 use Rattle.queues.specs.declared.Best.{Best}
-use Rattle.queues.specs.Entries.{entry, entryAt, queueOf, bestOf, Holds, PoppedFrom}
+use Rattle.queues.specs.Entries.{entry, entryAt, queueOf, Leads, Holds, PoppedFrom}
 use Rattle.queues.proofs.Leading.{found-pops, none-pops}
 use Rattle.queues.proofs.Queue as queue
 
@@ -116,7 +115,7 @@ pub waits-with : (w : ℕ) (p : Float) → (w ≡ 0 → ⊥) → entry w p ≡ s
 waits-with zero p h = absurd (h refl)
 waits-with (suc w) p h = refl
 
-module _ (q : Queue) (b : Best) (h : q .n ≤ 256) (e : bestOf b ≡ leader higher (queueOf q) (from 0 (q .n)) none) where
+module _ (q : Queue) (b : Best) (h : q .n ≤ 256) (e : Leads q b) where
   pub none-taken : b .found ≡ false → PoppedFrom q (record { found = false; cell = b .cell; queue = q })
   none-taken f = record {
     first = sym (none-pops higher (queueOf q) (q .n) (queue-length q) (b .found) (b .cell .0) (b .priority) e f);

@@ -1,19 +1,23 @@
 -- What the queue's arrays stand for: the rules' queue, and the cell that goes first.
 use mathlib.Core.Path.{_≡_}
 use mathlib.Core.Bool.{Bool, true, false}
-use mathlib.Core.List.{map}
+use mathlib.Core.List.{List, map}
 use mathlib.Core.Option.{Option, none, some}
 use Prim.Native.Nat.{ℕ, zero, suc, _≤_, _<_}
 use lib.ListN.{getD}
 use lib.Ieee.{Float, nan}
 use Rattle.rules.specs.Lists.{from}
 use Rattle.rules.specs.Boards.{Cell}
-use Rattle.rules.specs.Queues.{pop}
+use Rattle.rules.specs.Queues.{leader, pop}
 use Rattle.rules.specs.Floats.{higher}
 use Rattle.rules.specs.Probing.{CellQueue}
 use Rattle.queues.specs.declared.Queue.{Queue}
 use Rattle.queues.specs.declared.Best.{Best}
 use Rattle.queues.specs.declared.Popped.{Popped}
+
+-- the queue of n cells with these bytes and priorities
+abbrev pub queueAt : ℕ → List ℕ → List Float → Queue
+queueAt n waits priority = record { n = n; waits = waits; priority = priority }
 
 -- a cell waits with its priority where its byte is not 0
 abbrev pub entry : ℕ → Float → Option Float
@@ -35,6 +39,10 @@ found v c a = elim v [ true ↦ some (c, a) | false ↦ none ]
 -- the cell found so far, and its priority
 abbrev pub bestOf : Best → Option (Cell × Float)
 bestOf b = found (b .found) (b .cell .0) (b .priority)
+
+-- b is the cell that goes first of all in q, if any waits
+abbrev pub Leads : Queue → Best → Type 0
+Leads q b = bestOf b ≡ leader higher (queueOf q) (from 0 (q .n)) none
 
 -- the cell popped, and the queue without it
 abbrev pub poppedOf : Popped → Option (Cell × CellQueue)

@@ -6,7 +6,7 @@ ghost use lib.ListN.{replicate};
 ghost use Rattle.rules.specs.Floats.{higher};
 ghost use Rattle.rules.specs.Queues as Queues;
 ghost use Rattle.rules.specs.Probing.{pushAll};
-ghost use Rattle.queues.specs.Entries.{entry, queueOf, bestOf, Holds, PoppedFrom};
+ghost use Rattle.queues.specs.Entries.{queueAt, entry, queueOf, bestOf, Leads, Holds, PoppedFrom};
 use cells::CellNo;
 
 // For each of n cells whether it waits, and with which priority: so each cell is held once.
@@ -24,10 +24,10 @@ pub struct Popped {
 }
 
 // The waiting cell that goes first of those passed, if any waits, and its priority.
-struct Best {
-    found: bool,
-    cell: CellNo,
-    priority: f64,
+pub struct Best {
+    pub found: bool,
+    pub cell: CellNo,
+    pub priority: f64,
 }
 
 impl Best {
@@ -48,6 +48,24 @@ impl Best {
         }
         if self.priority < p { later } else { self }
     }
+}
+
+// The cell that goes first, of n cells with these bytes and priorities.
+pub fn leader<'a>(n: usize, waits: &'a [u8; 256], priority: &'a [f64; 256]) -> Best
+    requires { ⌜ n ≤ 256 ⌝ }
+    ensures { λ r. ⌜ Leads (queueAt n (now (waits .entry)) (now (priority .entry))) r ⌝ }
+{
+    let mut best = Best {
+        found: false,
+        cell: CellNo(0),
+        priority: 0.0,
+    };
+    let mut k: usize = 0;
+    while k < n {
+        best = best.ahead(CellNo(k as u16), waits[k], priority[k]);
+        k += 1;
+    }
+    best
 }
 
 impl Queue {
@@ -81,14 +99,14 @@ impl Queue {
         ensures { λ r. ⌜ Holds (self .n) (pushAll (now (cells .entry)) p (queueOf self)) r ⌝ }
     {
         let mut q = self;
-        let mut k: usize = 0;
-        while k < cells.len() {
-            let i = cells[k] as usize;
+        let mut j: usize = 0;
+        while j < cells.len() {
+            let i = cells[j] as usize;
             if i < q.n {
                 q.waits[i] = 1;
                 q.priority[i] = p;
             }
-            k += 1;
+            j += 1;
         }
         q
     }
@@ -99,16 +117,7 @@ impl Queue {
         ensures { λ r. ⌜ PoppedFrom self r ⌝ }
     {
         let mut q = self;
-        let mut best = Best {
-            found: false,
-            cell: CellNo(0),
-            priority: 0.0,
-        };
-        let mut k: usize = 0;
-        while k < q.n {
-            best = best.ahead(CellNo(k as u16), q.waits[k], q.priority[k]);
-            k += 1;
-        }
+        let best = leader(q.n, &q.waits, &q.priority);
         let c = best.cell;
         if !best.found {
             return Popped {

@@ -1,8 +1,10 @@
--- The invariant: the cells popped, and those still waiting, are all, in order. The measure is what is left of the array.
+-- The invariant: the cells taken out, and those still waiting, are all, in order. The measure is what is left of the array.
 use mathlib.Core.Path.{refl}
 use Prim.Native.Nat.{_-_}
 use native.Mathlib.Omega.{arith}
+use borrow.Author.Needs.{needs}
 use borrow.Author.Tests.{not-true, not-false}
+use Rattle.queues.proofs.Entries.{long, found-low}
 use Rattle.guesses.proofs.Popping.{Popping, popping-start, popping-turn, popping-none, popping-full}
 use Rattle.guesses.proofs.choosing.in_order.Statement.{statement}
 use Rattle.guesses.proofs.choosing.in_order.Tie as tie
@@ -14,22 +16,31 @@ abbrev μ-loop : tie.MeasureT-loop
 μ-loop left₀ cells₀ n₀ left cells n = 256 - n
 
 loop-holds : tie.Need-loop-holds Inv-loop μ-loop
-loop-holds c = popping-start (c .args .q) _ (c .pre) refl
+loop-holds c = popping-start (c .args .q) _ (long (c .args .q) _ (c .good .0)) (c .pre) refl
 
-pop-requires : tie.Need-pop-requires Inv-loop μ-loop
-pop-requires c κs = c .before .loop .inv .within
+leader-requires : tie.Need-leader-requires Inv-loop μ-loop
+leader-requires c κs = c .before .before .before .before .loop .inv .within
 
 returns : tie.Need-returns Inv-loop μ-loop
 returns c =
     let k = c .before .before in
-    let l = k .before .before .loop in
-    popping-none _ (l .left) (l .cells) (l .n) (l .inv) (k .pop .result) (k .pop .ensures) (not-true _ (c .if1 .taken))
+    let l = k .before .before .before .before .before .loop in
+    popping-none _ (l .left) (l .cells) (l .n) (l .inv) (k .leader .result) (k .leader .ensures) (not-true _ (c .if1 .taken))
+
+cast-i : tie.Need-cast-i Inv-loop μ-loop
+cast-i c = search needs
 
 mul-cells : tie.Need-mul-cells Inv-loop μ-loop
 mul-cells c = omega arith
 
 array-write-cells : tie.Need-array-write-cells Inv-loop μ-loop
-array-write-cells c = omega arith
+array-write-cells c = omega (arith, c .before .before .before .before .before .before .loop-test .taken, c .before .before .before .before .before .before .before .loop .inv .long)
+
+element-write-left : tie.Need-element-write-left Inv-loop μ-loop
+element-write-left c =
+    let k = c .before .before in
+    let l = k .before .before .before .before .before .loop in
+    omega (arith, l .inv .within, found-low (l .left) (k .leader .result) (l .inv .within) (k .leader .ensures) (not-false _ (c .if1 .left)))
 
 add-n : tie.Need-add-n Inv-loop μ-loop
 add-n c = omega arith
@@ -39,10 +50,9 @@ loop-less c = omega arith
 
 loop-again : tie.Need-loop-again Inv-loop μ-loop
 loop-again c =
-    let e = c .before in
-    let k = e .before .before in
-    let l = k .before .before .loop in
-    popping-turn _ (l .left) (l .cells) (l .n) (l .inv) (k .pop .result) (k .pop .ensures) (k .before .loop-test .taken) (not-false _ (e .if1 .left))
+    let k = c .before .before in
+    let l = k .before .before .before .before .before .loop in
+    popping-turn _ (l .left) (l .cells) (l .n) (l .inv) (k .leader .result) (k .leader .ensures) (k .before .before .before .before .loop-test .taken) (not-false _ (c .if1 .left))
 
 returns-2 : tie.Need-returns-2 Inv-loop μ-loop
 returns-2 c = let l = c .before .loop in popping-full _ (l .left) (l .cells) (l .n) (l .inv) (c .loop-test .left)
@@ -54,10 +64,12 @@ in-order-spec =
     Inv-loop
     μ-loop
     loop-holds
-    pop-requires
+    leader-requires
     returns
+    cast-i
     mul-cells
     array-write-cells
+    element-write-left
     add-n
     loop-less
     loop-again
