@@ -53,7 +53,7 @@ module _ (z : Puzzle) (i : ℕ) where
 
   -- the set of cell j
   pub line-at : (b : Board) (j : ℕ) → j < line .len → getD (lineOf z b i) j 0 ≡ at b (place line j)
-  line-at b j h = ap (λ cs. getD (map (at b) cs) j 0) line-cells ∙ map-places (at b) (line .start) (line .stride) (line .len) 0 j h ∙ ap (λ k. at b (place line k)) (omega arith)
+  line-at b j h = ap (λ cs. getD (map (at b) cs) j 0) line-cells ∙ map-places (at b) line j h
 
 -- any puzzle of this size will do
 inside : (w h i j : ℕ) → i < h + w → j < lineAt w h i .len → place (lineAt w h i) j < w * h

@@ -3,6 +3,7 @@ pub mod Sizes
 pub mod Places
 pub mod Counting
 pub mod Differing
+pub mod Parts
 pub mod Machines
 pub mod Pending
 pub mod Crossing

@@ -13,15 +13,10 @@ use lib.Pow.{pow-lt, pow-mono, shr-shr, shl-shr}
 use borrow.Author.Tests.{eqb-true, eqb-false, eq-eqb, ne-eqb}
 use Rattle.rules.specs.Lists.{first, from}
 use Rattle.rules.specs.Sets.{bit, has, setOf, only}
-use Rattle.rules.proofs.Tests.{by-test, and-true, true-and, or-true, true-or, same-test}
+use Rattle.rules.proofs.Tests.{by-test, or-true, true-or, same-test}
 use Rattle.rules.proofs.Lists.{first-least}
-use Rattle.rules.proofs.Sets.{bit-zero, has-in, in-has, has-suc, has-only, has-setOf, setOf-low, same-set, member-low}
-use Rattle.lines.proofs.Masks.{and-in, and-of, or-left, or-right, or-of}
-
-pub has-and : (a b j : ℕ) → has (bitAnd a b) j ≡ (has a j && has b j)
-has-and a b j = same-test (has (bitAnd a b) j) (has a j && has b j)
-    (λ e. let r = and-of a b j (in-has (bitAnd a b) j e) in true-and (has-in a j (r .0)) (has-in b j (r .1)))
-    (λ e. let r = and-true (has a j) (has b j) e in has-in (bitAnd a b) j (and-in a b j (in-has a j (r .0)) (in-has b j (r .1))))
+use Rattle.rules.proofs.Sets.{bit-zero, has-in, in-has, has-and, has-suc, has-only, has-setOf, setOf-low, same-set, member-low}
+use Rattle.lines.proofs.Masks.{or-left, or-right, or-of}
 
 pub has-or : (a b j : ℕ) → has (bitOr a b) j ≡ (has a j || has b j)
 has-or a b j = same-test (has (bitOr a b) j) (has a j || has b j)

@@ -1,17 +1,17 @@
 -- The places of a line's cells, one by one, and the sets that are written there.
 use mathlib.Core.Path.{_≡_, refl, sym, ap, subst, _∙_}
-use mathlib.Core.List.{List, [], _∷_, map, List·Memᴰ·head, List·Memᴰ·tail}
-use Prim.Native.Nat.{ℕ, zero, suc, _+_, _-_, _*_, _≤_, _<_}
+use mathlib.Core.List.{List, [], _∷_, map, map-map, List·Memᴰ·head, List·Memᴰ·tail}
+use Prim.Native.Nat.{ℕ, suc, _+_, _-_, _*_, _≤_, _<_}
 use native.Mathlib.Nat.{mul-le-mul}
 use native.Mathlib.Numerals.{add-one}
 use native.Mathlib.Omega.{arith}
-use lib.ListN.{length, getD, set, take, drop, replicate, length-map, length-set}
-use lib.Seq.{drop-cons, getD-take, getD-set-same, getD-set-other, take-set-lt, ext-getD, length-take-le}
+use lib.ListN.{length, getD, set, take, drop, length-map, length-set}
+use lib.Seq.{drop-cons, getD-take, take-set-lt, ext-getD, length-take-le}
 use borrow.Author.Tests.{lt-ltb, le-ltb}
 use Rattle.rules.specs.Lists.{from}
 use Rattle.rules.specs.Propagation.{write}
-use Rattle.rules.proofs.Tests.{by-equal}
-use Rattle.rules.proofs.Lists.{In, length-from}
+use Rattle.rules.proofs.Lists.{In}
+use Rattle.rules.proofs.Given.{length-given, given-at, Written}
 use Rattle.boards.specs.declared.line.Line.{Line}
 use Rattle.boards.specs.Line.{lineAt, places, Reaches}
 
@@ -29,44 +29,21 @@ pub small : {l : Line} {n : ℕ} → Reaches l n → (j : ℕ) → j < l .len �
 small {l} r j h = let q : j ≤ 16 = (let z = r .few in omega arith) in mul-le-mul q (r .close)
 
 pub length-places : (l : Line) → length (places l) ≡ l .len
-length-places l = length-map (from 0 (l .len)) (λ j. l .start + j * l .stride) ∙ length-from 0 (l .len)
+length-places l = length-given (λ j. l .start + j * l .stride) 0 (l .len)
 
 -- a function at the places
-pub map-places : (f : ℕ → ℕ) (start stride n i k : ℕ) → k < n → getD (map f (map (λ j. start + j * stride) (from i n))) k 0 ≡ f (start + (i + k) * stride)
-map-places f start stride zero i k h = absurd (omega arith)
-map-places f start stride (suc n) i zero h = ap (λ j. f (start + j * stride)) (omega arith)
-map-places f start stride (suc n) i (suc k) h = map-places f start stride n (suc i) k (omega arith) ∙ ap (λ j. f (start + j * stride)) (omega arith)
+pub map-places : (f : ℕ → ℕ) (l : Line) (k : ℕ) → k < l .len → getD (map f (places l)) k 0 ≡ f (l .start + k * l .stride)
+map-places f l k h = ap (λ xs. getD xs k 0) (map-map f (λ j. l .start + j * l .stride) (from 0 (l .len))) ∙ given-at (λ j. f (l .start + j * l .stride)) (l .len) k 0 h
 
--- the sets of the cells before j are gathered
-pub record Gathered (cells : List ℕ) (start stride len : ℕ) (sets : List ℕ) (j : ℕ) : Type 0 where
-  pub each : (k : ℕ) → k < j → getD sets k 0 ≡ getD cells (start + k * stride) 0
-  pub upto : j ≤ len
-  pub long : length sets ≡ 16
-
-pub gathered-start : (cells : List ℕ) (start stride len : ℕ) → Gathered cells start stride len (replicate 16 0) 0
-gathered-start cells start stride len = record { each = λ k h. absurd (omega arith); upto = omega arith; long = refl }
-
-pub gathered-turn : (cells : List ℕ) (start stride len : ℕ) (sets : List ℕ) (j : ℕ) → Gathered cells start stride len sets j → j < len → len ≤ 16 →
-    Gathered cells start stride len (set sets j (getD cells (start + j * stride) 0)) (j + 1)
-gathered-turn cells start stride len sets j g h s = record {
-  each = λ k l. by-equal k j
-      (λ e. ap (λ i. getD (set sets j v) i 0) e ∙ getD-set-same sets j v 0 (let z = g .long in omega arith) ∙ ap (λ i. getD cells (start + i * stride) 0) (sym e))
-      (λ e. getD-set-other sets j k v 0 e ∙ g .each k (omega arith));
-  upto = omega arith;
-  long = length-set sets j v ∙ g .long;
-}
-  where
-    v : ℕ
-    v = getD cells (start + j * stride) 0
-
-pub gathered-end : (cells sets : List ℕ) (l : Line) (j : ℕ) → Gathered cells (l .start) (l .stride) (l .len) sets j → l .len ≤ j → l .len ≤ 16 → take (l .len) sets ≡ map (λ c. getD cells c 0) (places l)
-gathered-end cells sets l j g h s = ext-getD 0 (take (l .len) sets) (map (λ c. getD cells c 0) (places l))
+-- the sets of a line's cells, gathered one by one
+pub gathered-end : (cells sets : List ℕ) (l : Line) (j : ℕ) → Written (λ k. getD cells (l .start + k * l .stride) 0) 0 16 j sets → l .len ≤ j → take (l .len) sets ≡ map (λ c. getD cells c 0) (places l)
+gathered-end cells sets l j g h = ext-getD 0 (take (l .len) sets) (map (λ c. getD cells c 0) (places l))
     (short ∙ sym (length-map (places l) (λ c. getD cells c 0) ∙ length-places l))
     (λ k q. let i : k < l .len = subst (λ n. k < n) short q in
-    getD-take (l .len) sets k 0 i ∙ g .each k (omega arith) ∙ ap (λ j. getD cells (l .start + j * l .stride) 0) (omega arith) ∙ sym (map-places (λ c. getD cells c 0) (l .start) (l .stride) (l .len) 0 k i))
+    getD-take (l .len) sets k 0 i ∙ g .passed k (omega arith) ∙ sym (map-places (λ c. getD cells c 0) l k i))
   where
     short : length (take (l .len) sets) ≡ l .len
-    short = length-take-le (l .len) sets (let z = g .long in omega arith)
+    short = length-take-le (l .len) sets (let z = g .long in let y = g .few in omega arith)
 
 -- writing the sets from j on is all that is left to do
 pub record Writing (before sets : List ℕ) (start stride len : ℕ) (cells : List ℕ) (j : ℕ) : Type 0 where

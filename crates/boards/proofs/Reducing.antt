@@ -50,7 +50,7 @@ module _ {w h : ℕ} {masks cells : List ℕ} {i : ℕ} {m : Machine} {l : Line}
   sets-bytes : Bytes sets
   sets-bytes j k =
       let n = sets-length in
-      subst (λ s. s < 256) (sym (map-places (λ c. getD cells c 0) (l .start) (l .stride) (l .len) 0 j (omega arith))) (r .bytes (l .start + (0 + j) * l .stride))
+      subst (λ s. s < 256) (sym (map-places (λ c. getD cells c 0) l j (omega arith))) (r .bytes (l .start + j * l .stride))
 
   few : l .len ≤ 16
   few = line-reaches (r .on) (r .line) .few

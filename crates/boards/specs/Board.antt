@@ -3,7 +3,7 @@ use mathlib.Core.Path.{_≡_}
 use mathlib.Core.Bool.{not, _&&_}
 use mathlib.Core.List.{List}
 use Prim.Native.Nat.{ℕ, _*_, _≤_}
-use lib.ListN.{length, take, set}
+use lib.ListN.{take, set}
 use Rattle.rules.specs.Lists.{digit}
 use Rattle.rules.specs.Sets.{single}
 use Rattle.boards.specs.declared.board.Board.{Board}

@@ -1,13 +1,12 @@
 -- The colours of a cell, taken out of its set one after the other, the one that solves most first.
 use mathlib.Core.Path.{_≡_, refl, sym, ap, _∙_}
 use mathlib.Core.Bool.{Bool, true, false, _&&_}
-use mathlib.Core.List.{List, [], _∷_, _++_, append-nil, append-assoc}
+use mathlib.Core.List.{List, [], _∷_, _++_, append-nil}
 use mathlib.Core.Option.{Option, none, some}
 use Prim.Native.Nat.{ℕ, suc, _+_, _-_, _≤_, _<_}
-use native.Mathlib.Numerals.{add-one}
 use native.Mathlib.Omega.{arith}
 use lib.ListN.{length, getD, set, take, length-set}
-use lib.Seq.{take-suc-set, getD-set-same, getD-set-other}
+use lib.Seq.{getD-set-same, getD-set-other}
 use borrow.Author.Tests.{ne-eqb}
 use Rattle.rules.specs.Lists.{from}
 use Rattle.rules.specs.Sets.{Colour, has, without}
@@ -15,6 +14,7 @@ use Rattle.rules.specs.Queues.{leader, pop, popped, inOrder}
 use Rattle.rules.specs.Guesses.{tally, colourOrder, notesAt}
 use Rattle.rules.specs.Probing as Probing
 use Rattle.rules.proofs.Tests.{by-equal}
+use Rattle.rules.proofs.Lists.{take-store}
 use Rattle.rules.proofs.Sets.{has-without, without-gone}
 use Rattle.rules.proofs.Given.{length-given, given-at, given-set}
 use Rattle.rules.proofs.Queues.{pop-some, pop-low, popped-some, popped-none}
@@ -73,10 +73,6 @@ pub record Taken (s : ℕ) (counts : List ℕ) (left n : ℕ) (xs : List ℕ) : 
   pub low : (k : ℕ) → k < n → getD xs k 0 < 8
   pub all : take n xs ++ popped more (8 - n) (waitingColours left counts) ≡ popped more 8 (waitingColours s counts)
 
--- the next place of a list gets x
-stored : (xs rest : List ℕ) (n x : ℕ) → n < length xs → take (n + 1) (set xs n x) ++ rest ≡ take n xs ++ (x ∷ rest)
-stored xs rest n x h = rw (add-one, take-suc-set xs n x h) (append-assoc (take n xs) (x ∷ []) rest)
-
 stored-low : (xs : List ℕ) (n x : ℕ) → n < length xs → x < 8 → ((k : ℕ) → k < n → getD xs k 0 < 8) → (k : ℕ) → k < n + 1 → getD (set xs n x) k 0 < 8
 stored-low xs n x h l f k m = by-equal k n (λ e. rw (e, getD-set-same xs n x 0 h) l) (λ e. rw (getD-set-other xs n k x 0 e) (f k (omega arith)))
 
@@ -90,7 +86,7 @@ module _ (s : ℕ) (counts : List ℕ) where
       long = length-set xs n (m .colour .0) ∙ t .long;
       few = omega arith;
       low = stored-low xs n (m .colour .0) (omega (arith, t .long)) (most-low left counts m e f) (t .low);
-      all = stored xs (popped more (8 - (n + 1)) (waitingColours (without left (m .colour .0)) counts)) n (m .colour .0) (omega (arith, t .long))
+      all = take-store xs (popped more (8 - (n + 1)) (waitingColours (without left (m .colour .0)) counts)) n (m .colour .0) (omega (arith, t .long))
           ∙ ap (λ l. take n xs ++ l) (sym (most-first left counts m e (8 - (n + 1)) f) ∙ ap (λ k. popped more k (waitingColours left counts)) (let z : suc (8 - (n + 1)) ≡ 8 - n = omega arith in z))
           ∙ t .all;
     }

@@ -1,7 +1,6 @@
 -- Which limit is met, the limit that is noted first, and the deepest depth, by the cases of the code's tests.
-use mathlib.Core.Path.{_≡_, refl, sym, ap}
-use Prim.Native.Nat.{ℕ, zero, suc, _+_, _≤_, _<_, max}
-use native.Mathlib.Omega.{arith}
+use mathlib.Core.Path.{_≡_, refl, ap}
+use Prim.Native.Nat.{ℕ, zero, suc, _≤_, _<_}
 use borrow.Author.Tests.{le-leb, lt-leb, lt-ltb, le-ltb}
 use Rattle.rules.specs.Search.{firstOf}
 use Rattle.runs.specs.declared.limits.Limits.{Limits}

@@ -1,14 +1,14 @@
 -- Grids compared cell by cell, and looked for one after the other.
 use mathlib.Core.Path.{_≡_, refl, sym, ap, subst, _∙_}
-use mathlib.Core.Bool.{Bool, true, false, not, _&&_, _||_}
-use mathlib.Core.List.{List, [], _∷_}
-use Prim.Native.Nat.{ℕ, zero, suc, _+_, _-_, _*_, _≤_, _<_}
+use mathlib.Core.Bool.{Bool, true, false, _&&_, _||_}
+use mathlib.Core.List.{List}
+use Prim.Native.Nat.{ℕ, suc, _+_, _-_, _*_, _≤_, _<_}
 use native.Mathlib.Nat.{mul-le-mul, mul-le-mul-right}
 use native.Mathlib.Numerals.{add-one}
 use native.Mathlib.Omega.{arith}
 use lib.Dec.{eqb}
-use lib.ListN.{length, getD, take, drop, length-drop, drop-of-length-le}
-use lib.Seq.{drop-cons, getD-take, getD-drop, length-take-le}
+use lib.ListN.{length, getD, drop, drop-of-length-le}
+use lib.Seq.{drop-cons}
 use borrow.Author.Tests.{eq-eqb, ne-eqb}
 use Rattle.rules.specs.Lists.{any, from}
 use Rattle.rules.specs.Boards.{same}
@@ -36,13 +36,6 @@ alike-fails a g i k h e q = k .all ∙ next a g i h e ∙ rw (ne-eqb (getD a i 0
 pub alike-end : (a g : List ℕ) (i : ℕ) → Alike a g i → length a ≤ i → length g ≡ length a → same a g ≡ true
 unfolding same
 alike-end a g i k h e = k .all ∙ rw (drop-of-length-le a h, drop-of-length-le g (subst (λ n. n ≤ i) (sym e) h))
-
--- a grid of n cells in a list
-pub length-part : (n at : ℕ) (list : List ℕ) → at + n ≤ length list → length (take n (drop at list)) ≡ n
-length-part n at list h = length-take-le n (drop at list) (rw length-drop (omega arith))
-
-pub getD-part : (n at i : ℕ) (list : List ℕ) → i < n → getD (take n (drop at list)) i 0 ≡ getD list (at + i) 0
-getD-part n at i list h = getD-take n (drop at list) i 0 h ∙ getD-drop at list i 0
 
 -- ## One grid after the other
 

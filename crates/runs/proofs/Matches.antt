@@ -1,23 +1,19 @@
 -- A run by value goes on as the rules' run does: limits, counts and stored grids.
 use mathlib.Core.Path.{_≡_, refl, sym, ap, ap₂, subst, _∙_}
-use mathlib.Core.Logic.{_⊎_, inl, inr}
-use mathlib.Core.Bool.{Bool, true, false}
+use mathlib.Core.Logic.{inl, inr}
+use mathlib.Core.Bool.{true, false}
 use mathlib.Core.List.{List, [], _∷_, _++_, append-assoc, append-nil, List·Memᴰ, List·Memᴰ·head, List·Memᴰ·tail, List·Memᴰ·append-cases, List·Memᴰ·eq-of-singleton}
-use Prim.Native.Nat.{ℕ, zero, suc, _+_, _-_, _*_, _≤_, _<_, max}
-use native.Mathlib.Nat.{mul-le-mul-right}
-use native.Mathlib.Numerals.{add-one}
+use Prim.Native.Nat.{ℕ, zero, suc, _+_, _*_, _≤_, _<_, max}
 use native.Mathlib.Omega.{arith}
-use lib.Dec.{leb, ltb}
-use lib.ListN.{length, getD, take, drop, length-append, length-drop}
-use lib.Seq.{paste, take-at, drop-at, take-length, drop-drop, take-append-le, drop-append-add, take-all}
+use lib.ListN.{length, getD, take, drop, length-append}
+use lib.Seq.{paste, take-at, drop-drop, drop-append-add, take-all}
 use Rattle.rules.specs.Lists.{any, from, joined}
 use Rattle.rules.specs.Boards.{Board, same, Puzzle}
 use Rattle.rules.specs.Probing as Rules
 use Rattle.rules.specs.Probing.{Run, Event, event}
-use Rattle.rules.specs.Search as Search
 use Rattle.rules.specs.Search.{met, note, deeper, storeIn, store, firstOf}
 use Rattle.rules.specs.Answers.{written}
-use Rattle.rules.proofs.Tests.{by-test, on-test}
+use Rattle.rules.proofs.Tests.{on-test}
 use Rattle.rules.proofs.Probing.{Quiet}
 use Rattle.runs.specs.declared.limits.Limits.{Limits}
 use Rattle.runs.specs.declared.limits.Stats.{Stats}

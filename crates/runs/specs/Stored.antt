@@ -2,9 +2,8 @@
 use mathlib.Core.Path.{_≡_}
 use mathlib.Core.Bool.{Bool, true, false}
 use mathlib.Core.List.{List}
-use Prim.Native.Nat.{ℕ, suc, _+_, _*_, _≤_}
-use lib.ListN.{length, take, drop}
-use lib.Dec.{leb}
+use Prim.Native.Nat.{ℕ, suc, _*_, _≤_}
+use lib.ListN.{take, drop}
 use lib.Seq.{paste}
 use Rattle.rules.specs.Lists.{any, from}
 use Rattle.rules.specs.Boards.{Board, same}

@@ -1,13 +1,10 @@
-use Prim.Native.Nat.{ℕ, _+_, _-_, _≤_, _<_}
+-- The invariant: no more bytes are put than there is room for. The measure is what is left of the bytes told.
+use Prim.Native.Nat.{_-_, _≤_}
 use lib.ListN.{length}
 use borrow.Author.Needs.{needs}
 use mathlib.Core.Path.{_≡_}
 use Rattle.vectors.proofs.byte_list.Statement.{statement}
 use Rattle.vectors.proofs.byte_list.Tie as tie
-use Rattle.vectors.proofs.byte_list.Reads as reads
-use Rattle.vectors.proofs.byte_list.Lts as lts
-use Rattle.vectors.proofs.next_number.Reads as next-number-reads
-use Rattle.vectors.proofs.put.Reads as put-reads
 
 abbrev Inv-loop : tie.InvT-loop
 Inv-loop text from out₀ at₀ n₀ counter₀ end out at n counter = (n ≤ length out) × (length out ≡ length out₀)
@@ -15,39 +12,30 @@ Inv-loop text from out₀ at₀ n₀ counter₀ end out at n counter = (n ≤ le
 abbrev μ-loop : tie.MeasureT-loop
 μ-loop text from out₀ at₀ n₀ counter₀ end out at n counter = end - counter
 
--- src/lib.rt:72:9
 next-number-requires : tie.Need-next-number-requires Inv-loop μ-loop
 next-number-requires c κs = search needs
 
--- src/lib.rt:75:5
 loop-holds : tie.Need-loop-holds Inv-loop μ-loop
 loop-holds c = search needs
 
--- src/lib.rt:76:13
 next-number-requires-2 : tie.Need-next-number-requires-2 Inv-loop μ-loop
 next-number-requires-2 c κs = search needs
 
--- src/lib.rt:78:9
 put-requires : tie.Need-put-requires Inv-loop μ-loop
 put-requires c κs = search needs
 
--- src/lib.rt:75:9
 add-counter : tie.Need-add-counter Inv-loop μ-loop
 add-counter c = search needs
 
--- src/lib.rt:75:5
 loop-less : tie.Need-loop-less Inv-loop μ-loop
 loop-less c = search needs
 
--- src/lib.rt:75:5
 loop-again : tie.Need-loop-again Inv-loop μ-loop
 loop-again c = search needs
 
--- src/lib.rt:69:1
 same-length : tie.Need-same-length Inv-loop μ-loop
 same-length c = search needs
 
--- src/lib.rt:69:1
 returns : tie.Need-returns Inv-loop μ-loop
 returns c = search needs
 

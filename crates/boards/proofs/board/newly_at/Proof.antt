@@ -1,7 +1,4 @@
 -- By the two tests, each of which is the definition's.
-use mathlib.Core.Path.{_≡_, refl, sym, ap, _∙_}
-use mathlib.Core.Bool.{not, _&&_}
-use Rattle.rules.specs.Lists.{digit}
 use borrow.Author.Needs.{needs}
 use Rattle.boards.proofs.board.newly_at.Statement.{statement}
 use Rattle.boards.proofs.board.newly_at.Tie as tie

@@ -1,8 +1,5 @@
 -- By the two cases of the test.
-use mathlib.Core.Path.{_≡_, refl, sym, ap, _∙_}
-use mathlib.Core.Bool.{not}
 use borrow.Author.Tests.{eq-eqb, ne-eqb}
-use Rattle.rules.specs.Lists.{digit}
 use Rattle.boards.proofs.line.differ_at.Statement.{statement}
 use Rattle.boards.proofs.line.differ_at.Tie as tie
 

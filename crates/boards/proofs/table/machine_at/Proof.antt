@@ -1,12 +1,15 @@
 -- The invariant: the masks passed are read. The measure is what is left of the eight.
-use Prim.Native.Nat.{_-_}
+use mathlib.Core.Path.{refl}
+use Prim.Native.Nat.{_+_, _-_, _*_}
 use native.Mathlib.Omega.{arith}
-use Rattle.boards.proofs.Machines.{Taken, taken-start, taken-turn, taken-end}
+use lib.ListN.{getD}
+use Rattle.rules.proofs.Given.{Written, written-start, written-turn}
+use Rattle.boards.proofs.Machines.{read-end}
 use Rattle.boards.proofs.table.machine_at.Statement.{statement}
 use Rattle.boards.proofs.table.machine_at.Tie as tie
 
 abbrev Inv-loop : tie.InvT-loop
-Inv-loop masks i at by₀ j₀ by j = Taken masks at by j
+Inv-loop masks i at by₀ j₀ by j = Written (λ k. getD masks (at + k) 0) 0 8 j by
 
 abbrev μ-loop : tie.MeasureT-loop
 μ-loop masks i at by₀ j₀ by j = 8 - j
@@ -15,7 +18,7 @@ mul-at : tie.Need-mul-at Inv-loop μ-loop
 mul-at c = omega arith
 
 loop-holds : tie.Need-loop-holds Inv-loop μ-loop
-loop-holds c = taken-start _ _
+loop-holds c = written-start _ _ _ _ refl
 
 add-by : tie.Need-add-by Inv-loop μ-loop
 add-by c = omega arith
@@ -39,7 +42,10 @@ loop-less : tie.Need-loop-less Inv-loop μ-loop
 loop-less c = omega arith
 
 loop-again : tie.Need-loop-again Inv-loop μ-loop
-loop-again c = taken-turn _ _ _ (c .before .before .loop .j) (c .before .before .loop .inv) (c .before .loop-test .taken)
+loop-again c =
+    let l = c .before .before .loop in
+    let a = c .before .before .before .args in
+    written-turn (λ k. getD (a .masks .now) (a .i * 10 + k) 0) 0 8 (l .j) (l .by) (l .inv) (c .before .loop-test .taken)
 
 add-t15 : tie.Need-add-t15 Inv-loop μ-loop
 add-t15 c = omega arith
@@ -60,7 +66,7 @@ shared-slice-read-t22 : tie.Need-shared-slice-read-t22 Inv-loop μ-loop
 shared-slice-read-t22 c = omega arith
 
 returns : tie.Need-returns Inv-loop μ-loop
-returns c = taken-end _ _ _ (c .before .before .before .loop .j) (c .before .before .before .loop .inv) (c .before .before .loop-test .left) (omega arith)
+returns c = read-end _ _ _ (c .before .before .before .loop .j) (c .before .before .before .loop .inv) (c .before .before .loop-test .left) (omega arith)
 
 pub machine-at-spec : {M : Type 1} → statement M
 machine-at-spec =

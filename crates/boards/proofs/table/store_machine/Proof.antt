@@ -3,12 +3,13 @@ use Prim.Native.Nat.{_-_}
 use native.Mathlib.Omega.{arith}
 use lib.ListN.{length-set}
 use Rattle.boards.proofs.Sizes.{machine-masks}
-use Rattle.boards.proofs.Machines.{Laid, laid-start, laid-turn, laid-end}
+use Rattle.boards.proofs.Parts.{Copied, copied-start, copied-turn}
+use Rattle.boards.proofs.Machines.{laid-end}
 use Rattle.boards.proofs.table.store_machine.Statement.{statement}
 use Rattle.boards.proofs.table.store_machine.Tie as tie
 
 abbrev Inv-loop : tie.InvT-loop
-Inv-loop masks₀ i m at j₀ masks j = Laid masks₀ (m .by) at masks j
+Inv-loop masks₀ i m at j₀ masks j = Copied masks₀ at (m .by) 8 j masks
 
 abbrev μ-loop : tie.MeasureT-loop
 μ-loop masks₀ i m at j₀ masks j = 8 - j
@@ -17,7 +18,7 @@ mul-at : tie.Need-mul-at Inv-loop μ-loop
 mul-at c = omega arith
 
 loop-holds : tie.Need-loop-holds Inv-loop μ-loop
-loop-holds c = laid-start _ _ _
+loop-holds c = copied-start _ _ _ _
 
 mul-masks : tie.Need-mul-masks Inv-loop μ-loop
 mul-masks c = omega arith
@@ -41,7 +42,10 @@ loop-less : tie.Need-loop-less Inv-loop μ-loop
 loop-less c = omega arith
 
 loop-again : tie.Need-loop-again Inv-loop μ-loop
-loop-again c = laid-turn _ _ _ _ (c .before .before .loop .j) (c .before .before .loop .inv) (c .before .loop-test .taken) (omega arith)
+loop-again c =
+    let s = c .before .before .before in
+    let l = c .before .before .loop in
+    copied-turn _ _ (s .args .t3 .by) 8 (l .j) _ (l .inv) (c .before .loop-test .taken) (let r = s .pre .1 in omega arith) (omega (arith, machine-masks (s .args .t3) _ (s .good .1 .1 .0)))
 
 add-masks-2 : tie.Need-add-masks-2 Inv-loop μ-loop
 add-masks-2 c = omega arith

@@ -1,13 +1,14 @@
 -- The invariant: the cells passed are the same. The measure is what is left of the cells.
-use mathlib.Core.Path.{_≡_, sym, ap, _∙_}
+use mathlib.Core.Path.{sym, ap, _∙_}
 use mathlib.Core.Bool.{not}
-use Prim.Native.Nat.{_+_, _-_, _*_, _<_, _≤_}
+use Prim.Native.Nat.{_-_, _*_, _≤_}
 use native.Mathlib.Omega.{arith}
-use lib.ListN.{length, getD, take, drop}
+use lib.ListN.{take, drop}
 use lib.Seq.{getD-take}
 use Rattle.boards.specs.Board.{boardOf}
 use Rattle.boards.proofs.Sizes.{board-cells, few-cells, board-length}
-use Rattle.runs.proofs.Grids.{Alike, alike-start, alike-turn, alike-fails, alike-end, length-part, getD-part}
+use Rattle.boards.proofs.Parts.{length-part, getD-part}
+use Rattle.runs.proofs.Grids.{Alike, alike-start, alike-turn, alike-fails, alike-end}
 use Rattle.runs.proofs.stored.differs.Statement.{statement}
 use Rattle.runs.proofs.stored.differs.Tie as tie
 

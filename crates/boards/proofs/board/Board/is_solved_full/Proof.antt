@@ -2,10 +2,9 @@
 use borrow.Author.Tests.{not-true, not-false}
 use lib.Seq.{getD-take}
 use mathlib.Core.Path.{_≡_, refl, sym, ap, _∙_}
-use mathlib.Core.Bool.{_&&_}
 use Prim.Native.Nat.{_≤_, _-_, _*_}
 use native.Mathlib.Omega.{arith}
-use lib.ListN.{length, getD, take, drop}
+use lib.ListN.{drop}
 use Rattle.rules.specs.Lists.{every}
 use Rattle.rules.specs.Sets.{single}
 use Rattle.rules.specs.Boards.{solved}

@@ -1,8 +1,8 @@
 -- The cell is written where it is in the array, and past the array there is none.
-use mathlib.Core.Path.{_≡_, ap, sym, _∙_}
+use mathlib.Core.Path.{ap, sym}
 use Prim.Native.Nat.{_≤_}
 use native.Mathlib.Omega.{arith}
-use lib.ListN.{length, set}
+use lib.ListN.{length}
 use lib.Seq.{set-out}
 use Rattle.boards.specs.Board.{withCells, withCell}
 use Rattle.boards.proofs.Sizes.{board-cells}
