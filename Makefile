@@ -19,7 +19,7 @@ tidy:
 oracle:
 	@tools/oracle
 
-# Each mend taken out of the rules and of the code alike is refused by the promise.
+# With a mend taken out, a law of the promise fails in the rules themselves.
 mends:
 	@tools/mends
 
