@@ -1,5 +1,5 @@
 -- What the search keeps: boards that can be played, and guesses that have room. After a dead guess a grid more has room, and the steps stay few.
-use mathlib.Core.Path.{_≡_, refl, sym, ap₂, subst, _∙_}
+use mathlib.Core.Path.{_≡_, refl, ap₂, subst, _∙_}
 use mathlib.Core.Bool.{Bool, true, false, _||_}
 use mathlib.Core.List.{List, [], _∷_}
 use mathlib.Core.Option.{Option, none, some}
@@ -15,7 +15,7 @@ use Rattle.rules.specs.Probing.{Run, steps, event, guessed, CellQueue, startQue
 use Rattle.rules.specs.Guesses.{Guess, guess, choose}
 use Rattle.rules.specs.Answers.{mostColours}
 use Rattle.rules.specs.Search.{Limits, dead, notDead, Tried, tried, Node, node, Spent, spent, Pass, over, ranOut, others, anyClosed, firstUnsolved, met}
-use Rattle.rules.specs.Search.{probedNode, lone, afterGuess, passStep, passMeasure, passUnended, pass, search, tryGuess}
+use Rattle.rules.specs.Search.{probedNode, lone, afterGuess, passStep, passMeasure, passUnended, pass}
 use Rattle.rules.specs.Promises.{mostProbing}
 use Rattle.rules.proofs.Tests.{on-test, on-number}
 use Rattle.rules.proofs.Lists.{In}
@@ -28,8 +28,7 @@ use Rattle.rules.proofs.Keeping.{ProbedSound, propagate-deduced, probe-sound}
 use Rattle.rules.proofs.Room as Room
 use Rattle.rules.proofs.Room.{taken-waiting, others-waiting, firstUnsolved-waiting, chosen-waiting}
 use Rattle.rules.proofs.Steps.{mostProbing-few}
-use Rattle.rules.proofs.Settling.{longest, TriedSettled}
-use Rattle.rules.proofs.Searching.{try-keeps-promise}
+use Rattle.rules.proofs.Bounds.{longest, TriedBounded, try-bounded}
 use Rattle.runs.specs.declared.limits.Limits.{Limits as Given}
 use Rattle.runs.specs.Matches.{limitsOf}
 use Rattle.backtracking.specs.Parts.{Went, died, went, afterSet, setGuess, afterProbe, probeGuess, refilled}
@@ -134,11 +133,10 @@ module _ {w h : ℕ} {masks : List ℕ} (g : Setting w h masks) where
     pub depth-down : depthOf l (left - 1) ≡ suc (depthOf l left)
     depth-down = omega arith
 
-    pub try-settled : (b : Board) (c : Cell) (x : Colour) (s : Run) → Fine g b → has (at b c) x ≡ true → length (s .stored) < l .grids → steps s < l .budget →
-        TriedSettled (g .puzzle) (limitsOf l) (mostSteps l left) (put b c x) s (tryAt (g .puzzle) l (left - 1) b c x s)
-    try-settled b c x s p k r n =
-        subst (λ e. TriedSettled (g .puzzle) (limitsOf l) (mostSteps l left) (put b c x) s (tryGuess (g .puzzle) (limitsOf l) (λ a hs t. search (g .puzzle) (limitsOf l) (left - 1) e a hs t) e b c x s))
-        (sym depth-down) (try-keeps-promise (g .puzzle) (limitsOf l) mostColours (omega arith) (left - 1) (depthOf l left) (omega arith) b c x s p k r n)
+    -- a guess stays within its bounds
+    pub tried-within : (b : Board) (c : Cell) (x : Colour) (s : Run) → Fine g b → has (at b c) x ≡ true → length (s .stored) < l .grids → steps s < l .budget →
+        TriedBounded (g .puzzle) (limitsOf l) (mostSteps l left) (tryAt (g .puzzle) l (left - 1) b c x s)
+    tried-within = try-bounded (g .puzzle) (limitsOf l) mostColours (omega arith) (left - 1) (depthOf l (left - 1))
 
     -- the steps stay few
     pub steps-few : l .depth ≤ 15 → l .budget ≤ 1_000_000_000 → w * h ≤ 256 → (n : ℕ) → n ≤ mostSteps l left → n ≤ 2 ^ 40

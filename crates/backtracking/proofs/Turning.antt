@@ -9,7 +9,7 @@ use lib.ListN.{length, take}
 use Rattle.rules.specs.Loops.{Turn, more, stop}
 use Rattle.rules.specs.Sets.{has, single}
 use Rattle.rules.specs.Boards as Rules
-use Rattle.rules.specs.Boards.{at, put, Puzzle}
+use Rattle.rules.specs.Boards.{at, Puzzle}
 use Rattle.rules.specs.Probing.{Run, steps}
 use Rattle.rules.specs.Guesses.{Guess, guess}
 use Rattle.rules.specs.Answers.{mostColours}
@@ -18,7 +18,7 @@ use Rattle.rules.specs.Search.{Limits, End, dead, notDead, Tried, tried, node, 
 use Rattle.rules.proofs.Tests.{on-test, on-number, clash}
 use Rattle.rules.proofs.Room as Room
 use Rattle.rules.proofs.Runs.{met-none}
-use Rattle.rules.proofs.Settling.{dead-same, TriedSettled}
+use Rattle.rules.proofs.Bounds.{Bounded, TriedBounded}
 use Rattle.boards.specs.declared.board.Board.{Board}
 use Rattle.boards.specs.Board.{boardOf, SameSize, withCells}
 use Rattle.boards.proofs.Sizes.{few-cells}
@@ -35,7 +35,7 @@ use Rattle.backtracking.specs.declared.node.Begun.{Begun}
 use Rattle.backtracking.specs.declared.nodes.Ended.{Ended}
 use Rattle.backtracking.proofs.Parts.{afterBefore, before-is, after-is}
 use Rattle.backtracking.proofs.Boarding.{size-more, at-size}
-use Rattle.backtracking.proofs.Fine.{mostSteps, try-settled, steps-few}
+use Rattle.backtracking.proofs.Fine.{mostSteps, tried-within, steps-few}
 use Rattle.backtracking.proofs.Passing.{tryingAt, stepAt}
 
 -- ## Before a guess
@@ -142,14 +142,14 @@ module _ (left : ℕ) {t : Node} {masks list : List ℕ} {l : Given} (waits : t 
 
     module _ (some-left : 1 ≤ left) (deep : left ≤ l .depth + 1) {q : Ended} {tried-out : List ℕ}
         (v : Tries (r .turned .node .board) c x masks out l (left - 1) (r .turned .node .stats) q tried-out) where
-      -- the guess has come to what the rules say, and keeps its promise
+      -- the guess has come to what the rules say, within its bounds
       record Came (g : Setting (t .board .w) (t .board .h) masks) (n : Search.Node) : Type 0 where
         before-it : Tried-in g n
         end : End
         run : Run
         came : tryingAt g l left (before-it .board) c x (before-it .run) ≡ tried end run
         is : (q .dead ≡ isDead end) × RunIs g (q .stats) tried-out run
-        settled : TriedSettled (g .puzzle) (limitsOf l) (mostSteps g l left) (put (before-it .board) c x) (before-it .run) (tried end run)
+        bounded : Bounded (g .puzzle) (limitsOf l) (mostSteps g l left) end run
 
       came-to : (g : Setting (t .board .w) (t .board .h) masks) (n : Search.Node) → NodeIs g t list n → NodeFine g n → Came g n
       came-to g n is fine = go (tryingAt g l left (k .board) c x (k .run)) refl
@@ -158,20 +158,20 @@ module _ (left : ℕ) {t : Node} {masks list : List ℕ} {l : Given} (waits : t 
           (λ a b. (g : Setting a b masks) (s : Run) → RunIs g (r .turned .node .stats) out s → Fine g (boardOf (r .turned .node .board)) → has (at (boardOf (r .turned .node .board)) c) x ≡ true →
           TriedTo g (q .dead) (q .stats) tried-out (tryingAt g l left (boardOf (r .turned .node .board)) c x s))
           (w .size) (v .to) g (k .run) (k .stands .run) (subst (Fine g) (sym (k .stands .board)) (k .fine)) (subst (λ b. has (at b c) x ≡ true) (sym (k .stands .board)) (k .has-colour))))
-          (try-settled g l left some-left deep (k .board) c x (k .run) (k .fine) (k .has-colour) (k .room .0) (k .room .1))
+          (tried-within g l left some-left deep (k .board) c x (k .run) (k .fine) (k .has-colour) (k .room .0) (k .room .1))
         where
           k : Tried-in g n
           k = tried-in g n is fine
 
           go : (o : Tried) → tryingAt g l left (k .board) c x (k .run) ≡ o → TriedTo g (q .dead) (q .stats) tried-out o →
-              TriedSettled (g .puzzle) (limitsOf l) (mostSteps g l left) (put (k .board) c x) (k .run) (tryingAt g l left (k .board) c x (k .run)) → Came g n
+              TriedBounded (g .puzzle) (limitsOf l) (mostSteps g l left) (tryingAt g l left (k .board) c x (k .run)) → Came g n
           go (tried a s) o h y = record {
             before-it = k;
             end = a;
             run = s;
             came = o;
             is = h;
-            settled = subst (TriedSettled (g .puzzle) (limitsOf l) (mostSteps g l left) (put (k .board) c x) (k .run)) o y;
+            bounded = subst (TriedBounded (g .puzzle) (limitsOf l) (mostSteps g l left)) o y;
           }
 
       -- its steps stay few
@@ -179,7 +179,7 @@ module _ (left : ℕ) {t : Node} {masks list : List ℕ} {l : Given} (waits : t 
       tried-steps y m =
           let k = came-to (m .setting) (m .node) (m .is) (m .fine) in
           steps-few (m .setting) l left some-left deep (y .depth) (y .budget) (few-cells (t .board) (y .sized)) (q .stats .steps)
-          (subst (λ n. n ≤ mostSteps (m .setting) l left) (sym (k .is .1 .steps)) (k .settled .short))
+          (subst (λ n. n ≤ mostSteps (m .setting) l left) (sym (k .is .1 .steps)) (k .bounded .short))
 
       -- the board is restored, and the guess has ended
       module _ {restored : Board} (as-saved : restored ≡ withCells (q .board) (r .turned .node .board .cells)) where
@@ -204,7 +204,7 @@ module _ (left : ℕ) {t : Node} {masks list : List ℕ} {l : Given} (waits : t 
               TurnTo g u last (after (g .puzzle) b c x gs p made e s₁))
               back-size (i .to) g (k .board) (k .gs) (k .p) (k .made) (o .run) (o .run) (o .end)
               (record { board = back-board ∙ k .stands .board; waiting = k .stands .waiting; probed = k .stands .probed; made = k .stands .made; run = o .is .1 })
-              (o .is .0) (o .is .1) (k .fine) (k .few) (k .has-colour) (λ d. room (o .end) d (o .settled)))
+              (o .is .0) (o .is .1) (k .fine) (k .few) (k .has-colour) (λ d. room (o .end) d (o .bounded)))
             where
               o : Came g n
               o = came-to g n is fine
@@ -212,12 +212,8 @@ module _ (left : ℕ) {t : Node} {masks list : List ℕ} {l : Given} (waits : t 
               k : Tried-in g n
               k = o .before-it
 
-              room : (a : End) → a ≡ dead → TriedSettled (g .puzzle) (limitsOf l) (mostSteps g l left) (put (k .board) c x) (k .run) (tried a (o .run)) → q .stats .grids < l .grids
-              room dead d y =
-                  let a : length (o .run .stored) ≡ length (k .run .stored) = ap length (dead-same (g .puzzle) (limitsOf l) y) in
-                  let b = o .is .1 .grids in
-                  let f = k .room .0 in
-                  omega arith
+              room : (a : End) → a ≡ dead → Bounded (g .puzzle) (limitsOf l) (mostSteps g l left) a (o .run) → q .stats .grids < l .grids
+              room dead d y = subst (λ n. n < l .grids) (sym (o .is .1 .grids)) (y .few)
               room notDead d y = absurd (let f : _≡_ {A = ℕ} 0 1 = cc in omega arith)
 
           pub turn-tried : Turns t masks list l left u last

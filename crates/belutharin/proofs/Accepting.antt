@@ -1,32 +1,30 @@
 -- From the bytes of a caller to the run: an input that passes every test is a given puzzle, and what its run comes to is the rules' answer.
-use mathlib.Core.Path.{_≡_, refl, sym, ap, subst, _∙_}
+use mathlib.Core.Path.{_≡_, refl, sym, subst, _∙_}
 use mathlib.Core.Bool.{Bool, true, false, _&&_}
-use mathlib.Core.List.{List, []}
+use mathlib.Core.List.{List}
 use mathlib.Core.Option.{Option, none, some}
-use Prim.Native.Nat.{ℕ, suc, _+_, _*_, _^_, _≤_, _<_}
+use Prim.Native.Nat.{ℕ, suc, _+_, _*_, _^_, _≤_}
 use native.Mathlib.Omega.{arith}
 use lib.ListN.{length}
 use lib.Pow.{pow-mono}
 use lib.Dec.{leb, ltb}
-use borrow.Author.Tests.{leb-true, le-leb, ltb-true, lt-ltb}
+use borrow.Author.Tests.{leb-true, ltb-true, lt-ltb}
 use Rattle.rules.specs.Lists.{every}
 use Rattle.rules.specs.Sets.{proper}
 use Rattle.rules.specs.Clues.{Clue, cluesOf}
 use Rattle.rules.specs.Answers as Rules
 use Rattle.rules.specs.Answers.{side, mostColours, colourCount, limits, board, Asked, untouched, searched, solve}
-use Rattle.rules.specs.Promises.{Promised}
 use Rattle.rules.proofs.Tests.{clash, and-true, true-and}
 use Rattle.rules.proofs.Lists.{every-out, every-in}
 use Rattle.rules.proofs.Accepting.{accepted-sized, accepted-proper}
 use Rattle.boards.specs.declared.board.Board.{Board}
 use Rattle.boards.specs.Board.{boardOf}
-use Rattle.boards.specs.Table.{Table, Playable}
+use Rattle.boards.specs.Table.{Table}
 use Rattle.puzzles.specs.Table.{TableTo, Reads}
-use Rattle.runs.specs.declared.limits.Limits.{Limits}
 use Rattle.belutharin.specs.Refusals.{numberFault, lentFault}
-use Rattle.belutharin.specs.Answers.{asked, answer, plain, Given, Searches}
+use Rattle.belutharin.specs.Answers.{asked, answer, Given, Searches}
 use Rattle.belutharin.specs.declared.answers.Answer.{Answer}
-use Rattle.belutharin.proofs.Refusing.{promised, legal-width, legal-height, legal-colours, legal-limits, clues-refused, lent-refused, accepted, accepted-answer}
+use Rattle.belutharin.proofs.Refusing.{legal-width, legal-height, legal-colours, legal-limits, clues-refused, lent-refused, accepted, accepted-answer}
 
 -- cells that may be given with fewer colours may be given with more
 proper-more : (k m : ℕ) (s : ℕ) → k ≤ m → proper k s ≡ true → proper m s ≡ true

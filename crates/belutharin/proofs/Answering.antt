@@ -2,29 +2,29 @@
 use mathlib.Core.Path.{_≡_, refl, sym, ap, subst, _∙_}
 use mathlib.Core.Bool.{Bool, true, false}
 use mathlib.Core.List.{List, [], List·Memᴰ·not-nil}
-use Prim.Native.Nat.{ℕ, suc, _+_, _*_, _≤_, _<_}
+use Prim.Native.Nat.{ℕ, suc, _+_, _*_, _≤_}
 use native.Mathlib.Omega.{arith}
-use lib.ListN.{length, length-take}
+use lib.ListN.{length}
 use Rattle.rules.specs.Clues.{Clue}
 use Rattle.rules.specs.Boards as Boards
 use Rattle.rules.specs.Boards.{Puzzle, solved}
 use Rattle.rules.specs.Propagation.{check}
 use Rattle.rules.specs.Probing as Probing
 use Rattle.rules.specs.Probing.{Run, contradiction, probed, probe, startQueue}
-use Rattle.rules.specs.Guesses.{Guess, choose}
+use Rattle.rules.specs.Guesses.{choose}
 use Rattle.rules.specs.Search as Search
-use Rattle.rules.specs.Search.{Left, left, dead, notDead, Outcome, solvedAs, listed, deadEnd, fresh, answered, search, checked, begun, wholeRun}
+use Rattle.rules.specs.Search.{Left, left, dead, notDead, Outcome, solvedAs, deadEnd, fresh, answered, search, checked, begun, wholeRun}
 use Rattle.rules.specs.Answers as Rules
-use Rattle.rules.specs.Answers.{mostColours, Asked, answerOf, written}
+use Rattle.rules.specs.Answers.{mostColours, answerOf, written}
 use Rattle.rules.specs.Promises.{Promise, ofOutcome}
 use Rattle.rules.proofs.Tests.{passed, clash}
 use Rattle.rules.proofs.Fitting as Fitting
 use Rattle.rules.proofs.Keeping.{ProbedSound, probe-sound}
 use Rattle.rules.proofs.Room as Room
 use Rattle.rules.proofs.Room.{waiting-1024, chosen-waiting}
-use Rattle.rules.proofs.Promises.{given-playable, run-promise, dead-stores-none}
+use Rattle.rules.proofs.Promises.{run-promise, dead-stores-none}
 use Rattle.boards.specs.declared.board.Board.{Board}
-use Rattle.boards.specs.Board.{boardOf, Sized, SameSize}
+use Rattle.boards.specs.Board.{boardOf, Sized}
 use Rattle.boards.specs.Table.{Table, Playable}
 use Rattle.boards.proofs.Sizes.{few-cells}
 use Rattle.notes.specs.Round.{notesOf}
@@ -36,7 +36,6 @@ use Rattle.runs.specs.Matches.{limitsOf, Matches}
 use Rattle.guesses.specs.declared.waiting.Guesses.{Guesses}
 use Rattle.guesses.specs.Waiting.{Waiting, IfRoom}
 use Rattle.backtracking.specs.declared.nodes.Ended.{Ended}
-use Rattle.backtracking.specs.Parts.{isDead}
 use Rattle.backtracking.specs.Setting.{Ready, Setting, LeftTo}
 use Rattle.backtracking.specs.Contracts as Contracts
 use Rattle.backtracking.specs.Contracts.{depthOf, SearchStands}
@@ -74,7 +73,7 @@ module _ (b : Board) (masks cells list : List ℕ) (l : Limits) (y : Given b mas
   start z = probe z (boardOf b) (startQueue z (boardOf b)) fresh
 
   playable : (z : Puzzle) → Table z (b .w) (b .h) masks → Fitting.Playable z mostColours cells
-  playable z t = given-playable z mostColours cells (y .long ∙ sym (ap (λ n. n * z .height) (t .wide) ∙ ap (λ n. b .w * n) (t .high))) (y .proper)
+  playable z t = Fitting.given-playable z mostColours cells (y .long ∙ sym (ap (λ n. n * z .height) (t .wide) ∙ ap (λ n. b .w * n) (t .high))) (y .proper)
 
   -- the run begins with the given board
   from-board : (z : Puzzle) → wholeRun z (limitsOf l) cells ≡ wholeRun z (limitsOf l) (boardOf b)

@@ -3,16 +3,16 @@ use mathlib.Core.Path.{_≡_, refl, sym, ap, subst, _∙_}
 use mathlib.Core.Bool.{Bool, true, false, _&&_}
 use mathlib.Core.List.{List}
 use mathlib.Core.Option.{Option, none, some}
-use Prim.Native.Nat.{ℕ, suc, _+_, _*_, _≤_}
+use Prim.Native.Nat.{ℕ, _+_, _*_, _≤_}
 use native.Mathlib.Omega.{arith}
 use lib.ListN.{length}
 use lib.Dec.{leb}
 use borrow.Author.Tests.{leb-true}
 use Rattle.rules.specs.Clues.{Clue, cluesOf}
 use Rattle.rules.specs.Answers as Rules
-use Rattle.rules.specs.Answers.{side, mostColours, colourCount, limits, board, Asked, untouched, testClues, testCells, testList, searched, solve}
+use Rattle.rules.specs.Answers.{side, mostColours, colourCount, limits, board, Asked, untouched, testClues, testCells, searched, solve}
 use Rattle.rules.specs.Promises.{Accepted, Promised}
-use Rattle.rules.proofs.Tests.{passed, and-true, true-and}
+use Rattle.rules.proofs.Tests.{passed, and-true}
 use Rattle.rules.proofs.Accepting.{accepted-searched}
 use Rattle.rules.proofs.Promises.{solve-promised}
 use Rattle.belutharin.specs.Refusals.{numberFault, lentFault}

@@ -1,19 +1,18 @@
 -- Contradicting colours are removed, one by one, and the cell is propagated.
-use mathlib.Core.Path.{_≡_, refl, sym, ap, subst, _∙_}
+use mathlib.Core.Path.{_≡_, refl, sym, ap, _∙_}
 use mathlib.Core.Bool.{Bool, true, false, cond}
-use mathlib.Core.List.{List, [], _∷_}
+use mathlib.Core.List.{List}
 use mathlib.Core.Option.{Option, none, some}
 use Prim.Native.Nat.{ℕ, _+_, _-_, _*_, _≤_, _<_}
 use native.Mathlib.Omega.{arith}
-use lib.ListN.{length, getD, set}
-use borrow.Author.Tests.{ne-eqb}
+use lib.ListN.{getD, set}
 use Rattle.rules.specs.Lists.{keep, from}
-use Rattle.rules.specs.Sets.{Colour, bit, has, members, colours, empty, without}
+use Rattle.rules.specs.Sets.{Colour, has, members, colours, empty, without}
 use Rattle.rules.specs.Boards as Rules
 use Rattle.rules.specs.Boards.{Cell, at, remove, removeAll, newly, Puzzle}
 use Rattle.rules.specs.Propagation.{propagate}
 use Rattle.rules.specs.Probing.{CellQueue, pushBoth}
-use Rattle.rules.proofs.Tests.{by-test, clash}
+use Rattle.rules.proofs.Tests.{clash}
 use Rattle.rules.proofs.Sets.{none-empty, some-not-empty}
 use Rattle.rules.proofs.Narrowing.{removeAll-turn}
 use Rattle.boards.specs.declared.board.Board.{Board}

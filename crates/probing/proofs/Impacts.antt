@@ -1,9 +1,8 @@
 -- What assuming the colours of a cell comes to, put down colour by colour.
-use mathlib.Core.Path.{_≡_, refl, sym, ap, ap₂, subst, _∙_}
+use mathlib.Core.Path.{_≡_, refl, sym, ap, ap₂, _∙_}
 use mathlib.Core.Bool.{Bool, true, false, _&&_, _||_}
-use mathlib.Core.List.{List, [], _∷_, map}
 use mathlib.Core.Option.{Option, none, some}
-use Prim.Native.Nat.{ℕ, zero, suc, _+_, _-_, _≤_, _<_}
+use Prim.Native.Nat.{ℕ, _+_, _-_, _≤_, _<_}
 use native.Mathlib.Nat.{add-zero}
 use native.Mathlib.Omega.{arith}
 use lib.Dec.{eqb, ltb}
@@ -11,12 +10,12 @@ use lib.ListN.{length, getD, set, replicate, length-set}
 use lib.Seq.{getD-set-same, getD-set-other}
 use borrow.Author.Tests.{lt-ltb, le-ltb, eq-eqb, ne-eqb, ltb-true, ltb-false}
 use Rattle.rules.specs.Lists.{keep, from, digit}
-use Rattle.rules.specs.Sets.{Colour, has, members, setOf, colours}
+use Rattle.rules.specs.Sets.{Colour, has, members, colours}
 use Rattle.rules.specs.Boards as Rules
 use Rattle.rules.specs.Boards.{Cell, at, Puzzle}
 use Rattle.rules.specs.Probing.{contradicting, solving, assume, outcomes}
 use Rattle.rules.proofs.Tests.{by-test, by-equal, clash, and-all, and-none, or-none}
-use Rattle.rules.proofs.Lists.{In, keep-keep, keep-same, from-low}
+use Rattle.rules.proofs.Lists.{keep-keep, keep-same, from-low}
 use Rattle.rules.proofs.Sets.{has-none, has-setOf, setOf-low, member}
 use Rattle.rules.proofs.Counting.{Counted, counted-start, counted-turn, counted-end}
 use Rattle.rules.proofs.Rounds.{fails, contradicting-keep, solving-all}

@@ -1,7 +1,7 @@
 -- A run of probing, turn by turn: a turn of the code's loop is a step of the rules, whatever puzzle the table is of.
 -- The steps stay few: a turn assumes at most eight colours, and what the rules' loop measures falls with it.
-use mathlib.Core.Path.{_≡_, refl, sym, ap, ap₂, subst, _∙_}
-use mathlib.Core.Bool.{Bool, true, false}
+use mathlib.Core.Path.{_≡_, refl, sym, ap, subst, _∙_}
+use mathlib.Core.Bool.{true, false}
 use mathlib.Core.List.{List, [], _∷_}
 use mathlib.Core.Option.{Option, none, some}
 use Prim.Native.Nat.{ℕ, suc, _+_, _*_, _^_, _≤_, _<_}
@@ -18,7 +18,7 @@ use Rattle.rules.specs.Propagation.{propagate}
 use Rattle.rules.specs.Queues.{waiting, pop}
 use Rattle.rules.specs.Floats.{higher}
 use Rattle.rules.specs.Probing as Probing
-use Rattle.rules.specs.Probing.{Run, steps, CellQueue, noNotes, Probing, probing, contradiction, probed, contradicting, solving, assumedAll, newRound, outcomes, pushBoth, cut, judge, probeStep, probeOn, probe}
+use Rattle.rules.specs.Probing.{Run, steps, CellQueue, noNotes, Probing, probing, contradiction, probed, solving, assumedAll, newRound, outcomes, pushBoth, cut, judge, probeStep, probeOn, probe}
 use Rattle.rules.proofs.Tests.{by-test, clash}
 use Rattle.rules.proofs.Sets.{colours-few, colours-some, colours-none}
 use Rattle.rules.proofs.Narrowing.{size-few}

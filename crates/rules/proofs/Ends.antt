@@ -1,27 +1,26 @@
 -- The loops of a node end by themselves, and so nothing in the rules is cut short: `propagate-falls`, `probe-falls`, `pass-falls`, `spent-falls`, and `depth-any` for the depth that is left.
 use mathlib.Core.Path.{_≡_, refl, sym, ap, subst, _∙_}
 use mathlib.Core.Logic.{_⊎_, inl, inr}
-use mathlib.Core.Bool.{Bool, true, false, not, _&&_, _||_, true≢false, false≢true}
-use mathlib.Core.List.{List, [], _∷_, _++_, map, List·Memᴰ·head, List·Memᴰ·tail, List·Memᴰ·cases-cons, List·Memᴰ·not-nil}
-use mathlib.Core.Option.{Option, none, some}
+use mathlib.Core.Bool.{Bool, true, false, not, _||_, false≢true}
+use mathlib.Core.List.{List, [], _∷_, map, List·Memᴰ·head, List·Memᴰ·tail, List·Memᴰ·cases-cons, List·Memᴰ·not-nil}
 use Prim.Native.Nat.{ℕ, zero, suc, _+_, _*_, _≤_, _<_}
 use native.Mathlib.Omega.{arith}
 use lib.ListN.{length}
 use lib.Dec.{eqb, ltb, leb}
 use borrow.Author.Tests.{eqb-true, eq-eqb, lt-ltb, not-true}
-use Rattle.rules.specs.Lists.{every, any, first}
-use Rattle.rules.specs.Loops.{Turn, more, stop, Holds, run, Falls}
+use Rattle.rules.specs.Lists.{every}
+use Rattle.rules.specs.Loops.{Turn, more, stop, Holds, Falls}
 use Rattle.rules.specs.Sets.{Colour, has, colours, single, empty}
 use Rattle.rules.specs.Boards.{Board, Cell, at, cells, remove, solved, size, Puzzle}
 use Rattle.rules.specs.Propagation.{check}
 use Rattle.rules.specs.Probing.{Run, steps, startQueue, Probed, contradiction, probed, probe}
 use Rattle.rules.specs.Guesses.{Guess, guess}
-use Rattle.rules.specs.Search.{Limits, End, dead, notDead, Left, left, Tried, tried, Node, node, Spent, spent, Pass, over, ranOut, deeper, note, store, sameGuess, among, others, closed, anyClosed, firstUnsolved, met, probedNode, probeNode, lone, afterGuess, passStep, passMeasure, passUnended, pass, again, spentStep, spentMeasure, spentUnended, refill, nodeFrom, tryGuess, search}
+use Rattle.rules.specs.Search.{Limits, dead, notDead, Left, left, Tried, tried, Node, node, Spent, spent, Pass, over, ranOut, deeper, note, sameGuess, among, others, closed, anyClosed, firstUnsolved, met, probedNode, lone, afterGuess, passStep, passMeasure, passUnended, pass, again, spentStep, spentMeasure, spentUnended, refill, nodeFrom, tryGuess, search}
 use Rattle.rules.proofs.Tests.{on-test, on-number, by-test, clash, and-true, or-false}
 use Rattle.rules.proofs.Lists.{In, any-out, any-in, every-out, every-in, not-every, first-found, in-map, map-in, in-getD, below}
 use Rattle.rules.proofs.Loops.{run-is, run-ends}
 use Rattle.rules.proofs.Sets.{member, colours-few}
-use Rattle.rules.proofs.Narrowing.{_⊑_, sub-size, remove-size}
+use Rattle.rules.proofs.Narrowing.{sub-size, remove-size}
 use Rattle.rules.proofs.Probing.{ProbedBelow, probe-below}
 
 -- ## Guesses

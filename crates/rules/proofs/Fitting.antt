@@ -2,19 +2,20 @@
 use mathlib.Core.Path.{_≡_, refl, sym, ap, ap₂, subst, _∙_}
 use mathlib.Core.Bool.{true, false, not}
 use mathlib.Core.List.{List, [], _∷_, map, map-map, List·Memᴰ·head, List·Memᴰ·tail}
-use Prim.Native.Nat.{ℕ, suc, _^_, _≤_, _<_}
+use Prim.Native.Nat.{ℕ, suc, _*_, _^_, _≤_, _<_}
 use native.Mathlib.Omega.{arith}
 use lib.Pow.{pow-pos, pow-mono}
-use lib.ListN.{length, getD, set, length-set, length-map}
+use lib.ListN.{length, getD, set, length-set, length-map, List·getD-eq-default}
 use lib.Seq.{getD-set-same, getD-set-other, ext-getD}
-use borrow.Author.Tests.{ne-eqb}
+use lib.Dec.{leb, ltb}
+use borrow.Author.Tests.{ne-eqb, leb-true, leb-false, ltb-true}
 use Rattle.rules.specs.Lists.{every, from}
-use Rattle.rules.specs.Sets.{Colour, has, single, empty, only, without}
+use Rattle.rules.specs.Sets.{Colour, has, single, empty, only, without, proper}
 use Rattle.rules.specs.Lines.{From, end, cell, fits}
 use Rattle.rules.specs.Boards.{Board, Cell, at, put, remove, removeAll, solved, Puzzle, lineCount, lineCells, lineOf, clueAt}
 use Rattle.rules.specs.Propagation.{write, check}
 use Rattle.rules.specs.Promises.{Fits, _⊑_}
-use Rattle.rules.proofs.Tests.{by-equal, clash, and-true, true-and}
+use Rattle.rules.proofs.Tests.{by-test, by-equal, clash, and-true, true-and}
 use Rattle.rules.proofs.Lists.{In, every-out, every-in, getD-in, getD-map, map-same, from-low, below}
 use Rattle.rules.proofs.Sets.{has-in, in-has, only-one, only-self, byte-colour, single-some, single-only, member-pos, has-without, some-member, not-empty}
 use Rattle.rules.proofs.Boards.{Sized, line-low}
@@ -30,6 +31,17 @@ pub record Playable (z : Puzzle) (k : ℕ) (b : Board) : Type 0 where
   pub sized : Sized z b
   pub filled : Filled b
   pub low : (c : Cell) → at b c < 2 ^ suc k
+
+-- a given board of the puzzle's size, whose cells may be given, can be played
+pub given-playable : (z : Puzzle) (k : ℕ) (b : Board) → length b ≡ z .width * z .height → every (proper k) b ≡ true → Playable z k b
+unfolding proper
+given-playable z k b e h = record { sized = e; filled = λ c l. here c l .0; low = λ c. by-test (leb (length b) c) (λ l. off c (leb-true (length b) c l)) (λ l. here c (leb-false (length b) c l) .1) }
+  where
+    here : (c : Cell) → c < length b → (0 < at b c) × (at b c < 2 ^ suc k)
+    here c l = let r = and-true (leb 1 (at b c)) (ltb (at b c) (2 ^ suc k)) (every-out (proper k) b h (getD-in b c 0 l)) in (leb-true 1 (at b c) (r .0), ltb-true (at b c) (2 ^ suc k) (r .1))
+
+    off : (c : Cell) → length b ≤ c → at b c < 2 ^ suc k
+    off c l = subst (λ s. s < 2 ^ suc k) (sym (List·getD-eq-default b 0 l)) (pow-pos (suc k))
 
 pub set-filled : (b : Board) (c : Cell) (s : ℕ) → Filled b → 0 < s → Filled (set b c s)
 set-filled b c s f h e l =

@@ -32,6 +32,7 @@ pub mod Noting
 pub mod Steps
 pub mod Room
 pub mod Runs
+pub mod Bounds
 pub mod Settling
 pub mod Nodes
 pub mod Trying

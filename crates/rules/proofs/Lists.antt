@@ -4,15 +4,15 @@ use mathlib.Core.Logic.{_⊎_, inl, inr, _≢_}
 use mathlib.Core.Bool.{Bool, true, false, not, _&&_, _||_, cond, true≢false, false≢true}
 use mathlib.Core.List.{List, [], _∷_, _++_, map, List·Memᴰ, List·Memᴰ·head, List·Memᴰ·tail, List·Memᴰ·cases-cons, List·Memᴰ·not-nil, List·Memᴰ·append-cases, append-assoc}
 use mathlib.Core.Option.{Option, none, some}
-use Prim.Native.Nat.{ℕ, zero, suc, _+_, _-_, _*_, _≤_, _<_}
+use Prim.Native.Nat.{ℕ, zero, suc, _+_, _-_, _≤_, _<_}
 use native.Mathlib.Numerals.{add-one}
 use native.Mathlib.Omega.{arith}
 use lib.ListN.{length, getD, replicate, set, take}
 use lib.Seq.{take-suc-set}
 use lib.Dec.{eqb}
 use borrow.Author.Tests.{eqb-true, eq-eqb}
-use Rattle.rules.specs.Lists.{keep, every, any, first, joined, from, sum, digit}
-use Rattle.rules.proofs.Tests.{on-test, by-test, by-equal, clash, and-true, true-and, or-true}
+use Rattle.rules.specs.Lists.{keep, every, any, first, joined, from, digit}
+use Rattle.rules.proofs.Tests.{on-test, by-test, by-equal, clash, and-true, true-and}
 
 -- a is in l
 abbrev pub In : {A : Type 0} → A → List A → Type 0

@@ -1,6 +1,6 @@
 -- A loop whose measure falls: its steps never run out, the equation that determines it, one turn of it, and the rule of invariants.
-use mathlib.Core.Path.{_≡_, refl, sym, ap, _∙_}
-use Prim.Native.Nat.{ℕ, zero, suc, _≤_, _<_}
+use mathlib.Core.Path.{_≡_, refl, ap, _∙_}
+use Prim.Native.Nat.{ℕ, zero, suc, _<_}
 use native.Mathlib.Omega.{arith}
 use Rattle.rules.specs.Loops.{Turn, more, stop, Holds, result, turns, Falls, run}
 

@@ -1,18 +1,18 @@
 -- A node keeps its promise, if the guesses made in it do.
 -- The guesses made and not dead are known: with no limit met, every fitting grid with such a guess's colour is stored. M3 ends a node only when a cell is closed; a fitting grid has one
--- of the closed cell's colours, so it is stored. After a dead guess nothing was stored, so that a grid more has room when the node's own probing solves the board.
-use mathlib.Core.Path.{_≡_, refl, sym, ap, subst}
+-- of the closed cell's colours, so it is stored.
+use mathlib.Core.Path.{_≡_, refl, sym, subst}
 use mathlib.Core.Logic.{inl, inr}
 use mathlib.Core.Bool.{Bool, true, false, _||_}
 use mathlib.Core.List.{List, [], _∷_, List·Memᴰ·cases-cons, List·Memᴰ·not-nil}
-use Prim.Native.Nat.{ℕ, suc, _+_, _≤_, _<_}
+use Prim.Native.Nat.{ℕ, suc, _≤_, _<_}
 use native.Mathlib.Omega.{arith}
 use lib.ListN.{length}
 use Rattle.rules.specs.Loops.{Turn, Holds}
 use Rattle.rules.specs.Sets.{Colour, has, colours, single, empty}
 use Rattle.rules.specs.Boards.{Board, Cell, at, cells, put, remove, solved, Puzzle}
 use Rattle.rules.specs.Propagation.{check}
-use Rattle.rules.specs.Probing.{Run, steps, startQueue, Probed, contradiction, probed, probe}
+use Rattle.rules.specs.Probing.{Run, startQueue, Probed, contradiction, probed, probe}
 use Rattle.rules.specs.Guesses.{Guess, guess}
 use Rattle.rules.specs.Search.{Limits, End, dead, notDead, Left, Tried, tried, Node, node, Spent, spent, Pass, over, ranOut, note, storeIn, store, others, anyClosed, firstUnsolved, met, probedNode, probeNode, lone, afterGuess, passStep, passMeasure, passUnended, pass, again, spentStep, spentMeasure, spentUnended, refill, afterPass, nodeFrom}
 use Rattle.rules.specs.Promises.{Fits, _⊑_}
@@ -21,18 +21,16 @@ use Rattle.rules.proofs.Lists.{In, from-low}
 use Rattle.rules.proofs.Loops.{run-ends}
 use Rattle.rules.proofs.Sets.{byte-colour, in-members}
 use Rattle.rules.proofs.Narrowing.{⊑-trans, sub-low, on-board, put-sub, remove-sub}
+use Rattle.rules.proofs.Probing.{ProbedBelow, probe-below}
 use Rattle.rules.proofs.Ends.{closed-out, pass-falls, spent-falls}
 use Rattle.rules.proofs.Fitting.{Playable, colourAt, fits-cell, fits-has, fits-wider, fits-put, fits-remove, playable-byte, playable-some, playable-remove, fits-one, check-fits, unchecked-none}
-use Rattle.rules.proofs.Keeping.{NoneFits, Keeps, Deduced, deduced-none, deduced-more, empty-cell}
-use Rattle.rules.proofs.Steps.{startQueue-long}
-use Rattle.rules.proofs.Settling.{longest, Settled, dead-same, TriedSettled, LeftBehind, LeftSettled, GuessPromise, Probes, probes, quiet-few}
-use Rattle.rules.proofs.Runs.{store-in, store-few, noted-limit, met-none, Grown, grown-in, grown-same, grown-more, grown-wider, grown-quiet, grown-store, grown-note}
+use Rattle.rules.proofs.Keeping.{NoneFits, Keeps, Deduced, deduced-none, deduced-more, empty-cell, ProbedSound, probe-sound}
+use Rattle.rules.proofs.Settling.{Settled, TriedSettled, LeftBehind, LeftSettled, GuessPromise}
+use Rattle.rules.proofs.Runs.{store-in, noted-limit, Grown, grown-in, grown-same, grown-more, grown-wider, grown-quiet, grown-store, grown-note}
 
 module _ (z : Puzzle) (l : Limits) (k : ℕ) (few : k ≤ 7) where
-  open Limits l using (mostGrids, mostDepth, budget)
-
-  -- over guesses that keep their promise within n steps
-  module _ (n : ℕ) (try : Board → Cell → Colour → Run → Tried) (d : ℕ) (guessPromise : GuessPromise z l k n try) (room : budget ≤ n) (b₀ : Board) (s₀ : Run) where
+  -- over guesses that keep their promise
+  module _ (try : Board → Cell → Colour → Run → Tried) (d : ℕ) (guessPromise : GuessPromise z k try) (b₀ : Board) (s₀ : Run) where
     -- with no limit met, every fitting grid with the guess's colour is stored, and there is one
     abbrev Known : Board → Guess → Run → Type 0
     Known b (guess c x) s = s .limit ≡ 0 → ((g : Board) → Fits z b g → has (at g c) x ≡ true → In g (s .stored)) × ((g : Board) × Fits z b₀ g)
@@ -42,12 +40,10 @@ module _ (z : Puzzle) (l : Limits) (k : ℕ) (few : k ≤ 7) where
       deduced : Deduced z k b₀ b
       known : (h : Guess) → In h made → Known b h s
       grown : Grown z b₀ s₀ s
-      stored-few : length (s .stored) ≤ mostGrids
-      short : steps s ≤ n + longest z k
 
     -- on to another board and run
-    moved-on : {b a : Board} {made : List Guess} {s t : Run} → Between b made s → Deduced z k b a → Grown z b₀ s t → length (t .stored) ≤ mostGrids → steps t ≤ n + longest z k → Between a made t
-    moved-on {b} {a} {made} {s} {t} i h w f c = record { deduced = deduced-more z k (i .deduced) h; known = known; grown = grown-more z (i .grown) w; stored-few = f; short = c }
+    moved-on : {b a : Board} {made : List Guess} {s t : Run} → Between b made s → Deduced z k b a → Grown z b₀ s t → Between a made t
+    moved-on {b} {a} {made} {s} {t} i h w = record { deduced = deduced-more z k (i .deduced) h; known = known; grown = grown-more z (i .grown) w }
       where
         known : (h : Guess) → In h made → Known a h t
         known (guess e x) m = λ u. let r = i .known (guess e x) m (w .limit-kept u) in (λ g o j. grown-in z w g (r .0 g (fits-wider z (h .sub) o) j), r .1)
@@ -59,7 +55,7 @@ module _ (z : Puzzle) (l : Limits) (k : ℕ) (few : k ≤ 7) where
     SpentSound (spent b p made s) = Between b made s × (solved b ≡ false)
 
     abbrev LeftSound : Left → Type 0
-    LeftSound e = LeftSettled z l (n + longest z k) b₀ s₀ e
+    LeftSound e = LeftSettled z b₀ s₀ e
 
     abbrev PassSound : Pass → Type 0
     PassSound (over e) = LeftSound e
@@ -68,99 +64,83 @@ module _ (z : Puzzle) (l : Limits) (k : ℕ) (few : k ≤ 7) where
     TurnSound : Turn Node Pass → Type 0
     TurnSound = Holds NodeSound PassSound
 
-    leaving : {b : Board} {made : List Guess} {s : Run} {e : End} {t : Run} → Between b made s → Settled z l (n + longest z k) b₀ s₀ e t → LeftBehind z l (n + longest z k) b₀ s₀ e b t
+    leaving : {b : Board} {made : List Guess} {s : Run} {e : End} {t : Run} → Between b made s → Settled z b₀ s₀ e t → LeftBehind z b₀ s₀ e b t
     leaving i h = record { settled = h; sub = i .deduced .sub; keeps = i .deduced .keeps }
 
     -- a limit is met
-    limited : {b : Board} {made : List Guess} {s : Run} (m : ℕ) → Between b made s → LeftBehind z l (n + longest z k) b₀ s₀ notDead b (note (suc m) s)
-    limited {s = s} m i = leaving i (record {
-      means = λ e. absurd (noted-limit (s .limit) m e);
-      grown = grown-more z (i .grown) (grown-note z b₀ (suc m) s);
-      few = i .stored-few;
-      short = i .short;
-    })
+    limited : {b : Board} {made : List Guess} {s : Run} (m : ℕ) → Between b made s → LeftBehind z b₀ s₀ notDead b (note (suc m) s)
+    limited {s = s} m i = leaving i (record { means = λ e. absurd (noted-limit (s .limit) m e); grown = grown-more z (i .grown) (grown-note z b₀ (suc m) s) })
 
     -- no grid fits
-    died : {b : Board} {made : List Guess} {s : Run} → Between b made s → NoneFits z b → LeftBehind z l (n + longest z k) b₀ s₀ dead b s
-    died i f = leaving i (record { means = λ g o. f g (i .deduced .keeps g o); grown = i .grown; few = i .stored-few; short = i .short })
+    died : {b : Board} {made : List Guess} {s : Run} → Between b made s → NoneFits z b → LeftBehind z b₀ s₀ dead b s
+    died i f = leaving i (record { means = λ g o. f g (i .deduced .keeps g o); grown = i .grown })
 
     -- the board is a grid, and is stored
-    filled : {b : Board} {made : List Guess} {s : Run} → Between b made s → length (s .stored) < mostGrids → solved b ≡ true → check z b ≡ true →
-        LeftBehind z l (n + longest z k) b₀ s₀ notDead b (store b s)
-    filled {b} {made} {s} i h e c = leaving i (record {
+    filled : {b : Board} {made : List Guess} {s : Run} → Between b made s → solved b ≡ true → check z b ≡ true → LeftBehind z b₀ s₀ notDead b (store b s)
+    filled {b} {made} {s} i e c = leaving i (record {
       means = λ _. (λ g o. subst (λ y. In y (storeIn b (s .stored))) (sym (fits-one z k few (i .deduced .playable) e (i .deduced .keeps g o))) (store-in b (s .stored)), (b, here));
       grown = grown-more z (i .grown) (grown-store z b₀ b s here);
-      few = omega (arith, store-few b (s .stored));
-      short = i .short;
     })
       where
         here : Fits z b₀ b
         here = fits-wider z (i .deduced .sub) (check-fits z k few (i .deduced .playable) e c)
 
-    -- the node's own probing, where a grid more has room
-    probed-sound : (next : Board → List Guess) (made : List Guess) (b : Board) (s : Run) → Between b made s → length (s .stored) < mostGrids → steps s ≤ n → (r : Probed) → Probes z k b s r →
+    -- the node's own probing
+    probed-sound : (next : Board → List Guess) (made : List Guess) (b : Board) (s : Run) → Between b made s → (r : Probed) → ProbedSound z k b r → ProbedBelow z b s r →
         TurnSound (probedNode z l try d next made b r)
     unfolding TurnSound
-    probed-sound next made b s i h c (contradiction t) o =
-        died (moved-on i (deduced-none z k (i .deduced .playable)) (grown-quiet z b₀ (o .below)) (let e = quiet-few (o .below) in omega arith) (let e = o .short in omega arith)) (o .sound)
-    probed-sound next made b s i h c (probed a ns t) o = on-test TurnSound (solved a)
-        (λ e. on-test TurnSound (check z a) (λ u. filled now more-room e u) (λ u. died now (λ g f. unchecked-none z k few (now .deduced .playable) e u f)))
+    probed-sound next made b s i (contradiction t) o q = died (moved-on i (deduced-none z k (i .deduced .playable)) (grown-quiet z b₀ q)) o
+    probed-sound next made b s i (probed a ns t) o q = on-test TurnSound (solved a)
+        (λ e. on-test TurnSound (check z a) (λ u. filled now e u) (λ u. died now (λ g f. unchecked-none z k few (now .deduced .playable) e u f)))
         (λ e. (now, e))
       where
-        more-room : length (t .stored) < mostGrids
-        more-room = let e = quiet-few (o .below .1) in omega arith
-
         now : Between a made t
-        now = moved-on i (o .sound) (grown-quiet z b₀ (o .below .1)) (let e = more-room in omega arith) (let e = o .short in omega arith)
+        now = moved-on i o (grown-quiet z b₀ (q .1))
 
-    own-probing : (next : Board → List Guess) (made : List Guess) (b : Board) (s : Run) → Between b made s → length (s .stored) < mostGrids → steps s ≤ n → TurnSound (probeNode z l try d next made b s)
-    own-probing next made b s i h c = probed-sound next made b s i h c (probe z b (startQueue z b) s) (probes z k few b (startQueue z b) s (i .deduced .playable) (startQueue-long z b))
+    own-probing : (next : Board → List Guess) (made : List Guess) (b : Board) (s : Run) → Between b made s → TurnSound (probeNode z l try d next made b s)
+    own-probing next made b s i = probed-sound next made b s i (probe z b (startQueue z b) s) (probe-sound z k few b (startQueue z b) s (i .deduced .playable)) (probe-below z b (startQueue z b) s)
 
     step-sound : (t : Node) → NodeSound t → TurnSound (passStep z l try d t)
     unfolding TurnSound
     step-sound (node b [] p made s) i = i
     step-sound (node b (guess c x ∷ gs) p made s) i = on-number TurnSound (met z l s d)
-        (λ e. let r = met-none z l s d e in
-        on-test TurnSound (has (at b c) x)
-        (λ h. on-test TurnSound (single (at b c)) (λ _. alone r p) (λ _. after (r .0) h (try b c x s) (guessPromise b c x s (i .0 .deduced .playable) h (r .0) (r .1))))
+        (λ _. on-test TurnSound (has (at b c) x)
+        (λ h. on-test TurnSound (single (at b c)) (λ _. alone p) (λ _. after h (try b c x s) (guessPromise b c x s here h)))
         (λ _. i))
         (λ m _. limited m (i .0))
       where
         here : Playable z k b
         here = i .0 .deduced .playable
 
-        alone : (length (s .stored) < mostGrids) × (steps s < budget) → (q : Bool) → TurnSound (lone z l try d b gs q made s)
-        alone r true = i
-        alone r false = own-probing (λ a. gs) made b s (i .0) (r .0) (let e = r .1 in omega arith)
+        alone : (q : Bool) → TurnSound (lone z l try d b gs q made s)
+        alone true = i
+        alone false = own-probing (λ a. gs) made b s (i .0)
 
-        after : length (s .stored) < mostGrids → has (at b c) x ≡ true → (t : Tried) → TriedSettled z l n (put b c x) s t → TurnSound (afterGuess z l try d b c x gs p made t)
-        after r h (tried notDead t) w = (record { deduced = now .deduced; known = known; grown = now .grown; stored-few = now .stored-few; short = now .short }, i .1)
+        after : has (at b c) x ≡ true → (t : Tried) → TriedSettled z (put b c x) s t → TurnSound (afterGuess z l try d b c x gs p made t)
+        after h (tried notDead t) w = (record { deduced = now .deduced; known = known; grown = now .grown }, i .1)
           where
             narrower : put b c x ⊑ b₀
             narrower = ⊑-trans (put-sub b c x h) (i .0 .deduced .sub)
 
             now : Between b made t
-            now = moved-on (i .0) (deduced-none z k here) (grown-wider z narrower (w .grown)) (w .few) (let e = w .short in omega arith)
+            now = moved-on (i .0) (deduced-none z k here) (grown-wider z narrower (w .grown))
 
             guessed-known : Known b (guess c x) t
             guessed-known e = let v = w .means e in (λ g f j. v .0 g (fits-put z c x f j), (v .1 .0, fits-wider z narrower (v .1 .1)))
 
             known : (g : Guess) → In g (guess c x ∷ made) → Known b g t
             known g m = elim (List·Memᴰ·cases-cons m) [ inl q ↦ subst (λ h. Known b h t) (sym q) guessed-known | inr m′ ↦ now .known g m′ ]
-        after r h (tried dead t) w = on-test TurnSound (empty (at a c))
+        after h (tried dead t) w = on-test TurnSound (empty (at a c))
             (λ e. record {
               settled = record {
                 means = λ g f. empty-cell z k few c (sub-low c 256 (remove-sub b c x) (playable-byte z k few here c)) on e g (still g (i .0 .deduced .keeps g f));
                 grown = grown-more z (i .0 .grown) more-stored;
-                few = w .few;
-                short = (let u = w .short in omega arith);
               };
               sub = ⊑-trans (remove-sub b c x) (i .0 .deduced .sub);
               keeps = λ g f. still g (i .0 .deduced .keeps g f);
             })
             (λ e. own-probing (λ f. others c x (colours (at f c)) gs) made a t
-            (moved-on (i .0) (record { sub = remove-sub b c x; playable = playable-remove z k few c x here e; keeps = still }) more-stored (w .few) (let u = w .short in omega arith))
-            (let u : length (t .stored) ≡ length (s .stored) = ap length (dead-same z l w) in omega arith) (w .short))
+            (moved-on (i .0) (record { sub = remove-sub b c x; playable = playable-remove z k few c x here e; keeps = still }) more-stored))
           where
             a : Board
             a = remove b c x
@@ -179,12 +159,10 @@ module _ (z : Puzzle) (l : Limits) (k : ℕ) (few : k ≤ 7) where
     pass-sound t i = run-ends (passStep z l try d) passMeasure (pass-falls z l try d) NodeSound PassSound step-sound passUnended t i
 
     -- M3: a closed cell has a colour of every fitting grid
-    closed-sound : (b : Board) (made : List Guess) (s : Run) → Between b made s → anyClosed b made ≡ true → LeftBehind z l (n + longest z k) b₀ s₀ notDead b s
+    closed-sound : (b : Board) (made : List Guess) (s : Run) → Between b made s → anyClosed b made ≡ true → LeftBehind z b₀ s₀ notDead b s
     closed-sound b made s i e = leaving i (record {
       means = λ u. (λ g f. stored u g (i .deduced .keeps g f), i .known (guess c (x .0)) (r .2 (x .0) (in-members 8 (at b c) (x .0) (x .1) (x .2))) u .1);
       grown = i .grown;
-      few = i .stored-few;
-      short = i .short;
     })
       where
         r : (c : Cell) × In c (cells b) × ((x : Colour) → In x (colours (at b c)) → In (guess c x) made)
@@ -222,12 +200,12 @@ module _ (z : Puzzle) (l : Limits) (k : ℕ) (few : k ≤ 7) where
         (λ m _. limited m (i .0))
 
     -- A NODE KEEPS ITS PROMISE
-    pub node-keeps-promise : (gs : List Guess) → Playable z k b₀ → solved b₀ ≡ false → length (s₀ .stored) ≤ mostGrids → steps s₀ ≤ n + longest z k → LeftSound (nodeFrom z l try d b₀ gs s₀)
+    pub node-keeps-promise : (gs : List Guess) → Playable z k b₀ → solved b₀ ≡ false → LeftSound (nodeFrom z l try d b₀ gs s₀)
     unfolding nodeFrom refill SpentTurnSound
-    node-keeps-promise gs p h f c = go (pass z l try d (node b₀ gs false [] s₀)) (pass-sound (node b₀ gs false [] s₀) (start, h))
+    node-keeps-promise gs p h = go (pass z l try d (node b₀ gs false [] s₀)) (pass-sound (node b₀ gs false [] s₀) (start, h))
       where
         start : Between b₀ [] s₀
-        start = record { deduced = deduced-none z k p; known = λ g m. absurd (List·Memᴰ·not-nil m); grown = grown-same z b₀ s₀ s₀ refl (λ e. e); stored-few = f; short = c }
+        start = record { deduced = deduced-none z k p; known = λ g m. absurd (List·Memᴰ·not-nil m); grown = grown-same z b₀ s₀ s₀ refl (λ e. e) }
 
         go : (r : Pass) → PassSound r → LeftSound (afterPass z l try d r)
         go (over e) i = i

@@ -1,24 +1,24 @@
 -- Probing ends by itself, narrows the board, and only adds events to a run.
 use mathlib.Core.Path.{_≡_, refl, sym, ap, subst, _∙_}
-use mathlib.Core.Logic.{_⊎_, inl, inr}
-use mathlib.Core.Bool.{true, false, not, true≢false, false≢true}
+use mathlib.Core.Logic.{inl, inr}
+use mathlib.Core.Bool.{true}
 use mathlib.Core.List.{List, [], _∷_, _++_, map, List·Memᴰ·head, List·Memᴰ·tail, List·Memᴰ·cases-cons, List·Memᴰ·not-nil}
 use mathlib.Core.Option.{Option, none, some}
-use Prim.Native.Nat.{ℕ, zero, suc, _+_, _*_, _≤_, _<_}
+use Prim.Native.Nat.{ℕ, suc, _+_, _*_, _≤_, _<_}
 use native.Mathlib.Nat.{mul-le-mul-right}
 use native.Mathlib.Omega.{arith}
-use lib.ListN.{length, getD, set, length-set}
+use lib.ListN.{length, length-set}
 use lib.Ieee.{Float}
 use Rattle.rules.specs.Lists.{joined}
-use Rattle.rules.specs.Loops.{Turn, more, stop, Holds, run, Falls}
-use Rattle.rules.specs.Sets.{Colour, has, members, colours, empty}
-use Rattle.rules.specs.Queues.{Queue, push, waiting, pop}
+use Rattle.rules.specs.Loops.{Turn, more, stop, Holds, Falls}
+use Rattle.rules.specs.Sets.{Colour, has, colours, empty}
+use Rattle.rules.specs.Queues.{push, waiting, pop}
 use Rattle.rules.specs.Boards.{Board, Cell, at, put, removeAll, solved, size, newly, Puzzle, around}
 use Rattle.rules.specs.Propagation.{propagate}
 use Rattle.rules.specs.Floats.{float, higher}
-use Rattle.rules.specs.Probing.{Event, assumed, Run, steps, event, CellQueue, pushAll, Notes, noNotes, Probing, probing, Probed, contradiction, probed, contradicting, solving, assumedAll, startQueue, pushAround, pushBoth, assume, outcomes, newRound, cut, judge, probeCell, probeStep, probeMeasure, probeUnended, probeOn, probe}
-use Rattle.rules.proofs.Tests.{on-test, on-option, clash}
-use Rattle.rules.proofs.Lists.{In, keep-few, from-low, map-in}
+use Rattle.rules.specs.Probing.{assumed, Run, steps, event, CellQueue, pushAll, Notes, Probing, probing, Probed, contradiction, probed, contradicting, solving, assumedAll, pushAround, pushBoth, assume, outcomes, newRound, cut, judge, probeStep, probeMeasure, probeUnended, probeOn, probe}
+use Rattle.rules.proofs.Tests.{on-test, on-option}
+use Rattle.rules.proofs.Lists.{In, map-in}
 use Rattle.rules.proofs.Loops.{run-is, run-ends}
 use Rattle.rules.proofs.Sets.{member}
 use Rattle.rules.proofs.Queues.{Popped, pop-some, pop-long, pop-fewer, waiting-few}

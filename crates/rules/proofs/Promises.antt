@@ -3,47 +3,33 @@ use mathlib.Core.Path.{_≡_, refl, sym, ap, ap₂, subst, _∙_}
 use mathlib.Core.Logic.{inl, inr}
 use mathlib.Core.Bool.{true}
 use mathlib.Core.List.{List, [], _∷_, _++_, append-assoc, List·Memᴰ·head, List·Memᴰ·tail, List·Memᴰ·not-nil}
-use Prim.Native.Nat.{ℕ, suc, _+_, _*_, _^_, _≤_, _<_}
+use Prim.Native.Nat.{ℕ, suc, _+_, _*_, _≤_}
 use native.Mathlib.Nat.{mul-le-mul-left}
 use native.Mathlib.Omega.{arith}
-use lib.ListN.{length, take, drop, List·getD-eq-default}
+use lib.ListN.{length, take, drop}
 use lib.Seq.{take-at, drop-at}
-use lib.Pow.{pow-pos}
-use lib.Dec.{leb, ltb}
-use borrow.Author.Tests.{leb-true, leb-false, ltb-true}
-use Rattle.rules.specs.Lists.{every, joined}
-use Rattle.rules.specs.Sets.{proper}
+use Rattle.rules.specs.Lists.{joined}
 use Rattle.rules.specs.Clues.{Clue}
-use Rattle.rules.specs.Boards.{Board, Cell, at, solved, Puzzle}
+use Rattle.rules.specs.Boards.{Board, solved, Puzzle}
 use Rattle.rules.specs.Propagation.{check}
 use Rattle.rules.specs.Probing.{Run, steps, startQueue, Probed, contradiction, probed, probe}
 use Rattle.rules.specs.Guesses.{choose}
 use Rattle.rules.specs.Search.{Limits, End, dead, notDead, Left, left, Outcome, solvedAs, listed, deadEnd, fresh, answered, search, checked, begun, wholeRun}
 use Rattle.rules.specs.Answers.{mostColours, Asked, written, answerOf, searched, solve}
 use Rattle.rules.specs.Promises.{Fits, Distinct, mostProbing, Promise, ofOutcome, parts, ofAnswer, Accepted, puzzleOf, limitsOf, Promised}
-use Rattle.rules.proofs.Tests.{on-test, by-test, and-true}
-use Rattle.rules.proofs.Lists.{In, in-some, every-out, getD-in}
+use Rattle.rules.proofs.Tests.{on-test}
+use Rattle.rules.proofs.Lists.{In, in-some}
 use Rattle.rules.proofs.Narrowing.{⊑-trans}
 use Rattle.rules.proofs.Accepting.{accepted-searched, accepted-sized, accepted-proper, accepted-colours, accepted-few, solve-cases}
-use Rattle.rules.proofs.Fitting.{Playable, fits-long, fits-wider, fits-one, check-fits, unchecked-none}
+use Rattle.rules.proofs.Fitting.{Playable, given-playable, fits-long, fits-wider, fits-one, check-fits, unchecked-none}
 use Rattle.rules.proofs.Keeping.{NoneFits, Deduced, deduced-none, ProbedSound, probe-sound}
 use Rattle.rules.proofs.Steps.{mostProbing-few}
 use Rattle.rules.proofs.Order.{any-order}
-use Rattle.rules.proofs.Settling.{LeftBehind, LeftSettled, longest}
+use Rattle.rules.proofs.Bounds.{longest, LeftBounded, search-bounded}
+use Rattle.rules.proofs.Settling.{LeftBehind, LeftSettled}
 use Rattle.rules.proofs.Searching.{search-keeps-promise}
 
 -- ## A run of the rules
-
--- a given board of the puzzle's size, whose cells may be given, can be played
-pub given-playable : (z : Puzzle) (k : ℕ) (b : Board) → length b ≡ z .width * z .height → every (proper k) b ≡ true → Playable z k b
-unfolding proper
-given-playable z k b e h = record { sized = e; filled = λ c l. here c l .0; low = λ c. by-test (leb (length b) c) (λ l. off c (leb-true (length b) c l)) (λ l. here c (leb-false (length b) c l) .1) }
-  where
-    here : (c : Cell) → c < length b → (0 < at b c) × (at b c < 2 ^ suc k)
-    here c l = let r = and-true (leb 1 (at b c)) (ltb (at b c) (2 ^ suc k)) (every-out (proper k) b h (getD-in b c 0 l)) in (leb-true 1 (at b c) (r .0), ltb-true (at b c) (2 ^ suc k) (r .1))
-
-    off : (c : Cell) → length b ≤ c → at b c < 2 ^ suc k
-    off c l = subst (λ s. s < 2 ^ suc k) (sym (List·getD-eq-default b 0 l)) (pow-pos (suc k))
 
 module _ (z : Puzzle) (l : Limits) (k : ℕ) (few : k ≤ 7) (given : Board) (p : Playable z k given) where
   open Limits l using (mostGrids, mostDepth, budget)
@@ -93,27 +79,27 @@ module _ (z : Puzzle) (l : Limits) (k : ℕ) (few : k ≤ 7) (given : Board) (p 
       (λ h. none-promise (λ g f. unchecked-none z k few (d .playable) e h (d .keeps g f)))
 
   -- the search at depth 0
-  stored-given : (b : Board) {n : ℕ} {e : End} {a : Board} {s : Run} → Deduced z k given b → LeftBehind z l n b fresh e a s → (g : Board) → In g (s .stored) → Fits z given g
+  stored-given : (b : Board) {e : End} {a : Board} {s : Run} → Deduced z k given b → LeftBehind z b fresh e a s → (g : Board) → In g (s .stored) → Fits z given g
   stored-given b d i g m = fits-wider z (d .sub) (i .settled .grown .fit g (subst (λ r. In g r) (i .settled .grown .longer) m))
 
   within : (s : Run) → steps s ≤ budget + suc (suc mostDepth) * longest z k → steps s ≤ budget + (mostDepth + 2) * mostProbing k (length given)
   unfolding longest
   within s h = subst (λ n. steps s ≤ budget + (mostDepth + 2) * mostProbing k n) (sym (p .sized)) (omega arith)
 
-  answered-promise : (b : Board) → Deduced z k given b → (e : Left) → LeftSettled z l (budget + suc (suc mostDepth) * longest z k) b fresh e → PromisedBy (answered e)
+  answered-promise : (b : Board) → Deduced z k given b → (e : Left) → LeftSettled z b fresh e → LeftBounded z l (budget + suc (suc mostDepth) * longest z k) e → PromisedBy (answered e)
   unfolding PromisedBy longest
-  answered-promise b d (left dead a s) i =
-      dead-promise s (λ g f. i .settled .means g (d .keeps g f)) (stored-given b d i) (i .settled .grown .once tt) (i .settled .few) (within s (i .settled .short))
-  answered-promise b d (left notDead a s) i = record {
+  answered-promise b d (left dead a s) i n =
+      dead-promise s (λ g f. i .settled .means g (d .keeps g f)) (stored-given b d i) (i .settled .grown .once tt) (let h = n .few in omega arith) (within s (n .short))
+  answered-promise b d (left notDead a s) i n = record {
     answered = inr (inl refl);
     dead-end = λ e. absurd (omega arith);
     solved = λ e. absurd (omega arith);
     deductions = λ _. (⊑-trans (i .sub) (d .sub), λ g f. i .keeps g (d .keeps g f));
     stored-fit = stored-given b d i;
     stored-once = i .settled .grown .once tt;
-    stored-few = i .settled .few;
+    stored-few = n .few;
     complete = λ _ u. let v = i .settled .means u in (in-some (v .0 (v .1 .0) (v .1 .1)), λ g f. v .0 g (d .keeps g f));
-    steps-few = within s (i .settled .short);
+    steps-few = within s (n .short);
   }
 
   -- THE RULES KEEP THE PROMISE
@@ -126,7 +112,8 @@ module _ (z : Puzzle) (l : Limits) (k : ℕ) (few : k ≤ 7) (given : Board) (p 
       go (contradiction s) h = none-promise h
       go (probed b ns s) d = on-test PromisedBy (solved b) (λ e. checked-promise b d e)
           (λ e. answered-promise b d (search z l (suc mostDepth) 0 b (choose b ns) fresh)
-          (search-keeps-promise z l k few (suc mostDepth) 0 (omega arith) b (choose b ns) fresh (d .playable) e (omega arith) (omega arith)))
+          (search-keeps-promise z l k few (suc mostDepth) 0 (omega arith) b (choose b ns) fresh (d .playable) e)
+          (search-bounded z l k few (suc mostDepth) 0 b (choose b ns) fresh (d .playable) (omega arith) (omega arith)))
 
   -- a dead end has stored nothing: what is stored fits, and nothing does
   pub dead-stores-none : (s : Run) → Promise z l k given (ofOutcome given (deadEnd s)) → s .stored ≡ []

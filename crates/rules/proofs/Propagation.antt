@@ -1,23 +1,23 @@
 -- Propagating ends by itself, and narrows the board.
-use mathlib.Core.Path.{_≡_, refl, sym, ap, subst, _∙_}
-use mathlib.Core.Logic.{_⊎_, inl, inr, _≢_}
-use mathlib.Core.Bool.{Bool, true, false, not, _&&_, _||_, true≢false, false≢true}
-use mathlib.Core.List.{List, [], _∷_, map}
+use mathlib.Core.Path.{_≡_, refl, sym, subst, _∙_}
+use mathlib.Core.Logic.{inl, inr}
+use mathlib.Core.Bool.{true, false, not, _&&_, _||_}
+use mathlib.Core.List.{List}
 use mathlib.Core.Option.{Option, none, some}
-use Prim.Native.Nat.{ℕ, zero, suc, _+_, _*_, _≤_, _<_}
+use Prim.Native.Nat.{ℕ, suc, _*_, _≤_, _<_}
 use native.Mathlib.Nat.{mul-le-mul-right}
 use native.Mathlib.Omega.{arith}
 use lib.ListN.{length, getD, length-map}
 use lib.Dec.{eqb}
 use borrow.Author.Tests.{eq-eqb, not-true}
-use Rattle.rules.specs.Lists.{keep, any, first, from}
-use Rattle.rules.specs.Loops.{Turn, more, stop, Holds, run, Falls}
+use Rattle.rules.specs.Lists.{any, from}
+use Rattle.rules.specs.Loops.{Turn, more, stop, Holds, Falls}
 use Rattle.rules.specs.Sets.{has, members, setOf, lost}
 use Rattle.rules.specs.Lines.{reduce}
 use Rattle.rules.specs.Boards.{Board, Cell, at, size, Puzzle, lineCount, rowOf, columnOf, lineCells, lineOf, clueAt, crossing}
 use Rattle.rules.specs.Propagation.{Pending, pending, write, next, woken, pend, reduced, propagateStep, propagateMeasure, propagateOn, propagate}
 use Rattle.rules.proofs.Tests.{on-option, by-test, clash, and-true, or-true}
-use Rattle.rules.proofs.Lists.{In, keep-few, keep-less, any-out, any-in, first-some, length-from, from-low, below, getD-map}
+use Rattle.rules.proofs.Lists.{keep-few, keep-less, any-out, any-in, first-some, length-from, from-low, below, getD-map}
 use Rattle.rules.proofs.Loops.{run-is, run-more, run-stop, run-ends}
 use Rattle.rules.proofs.Sets.{has-setOf}
 use Rattle.rules.proofs.Lines.{Bytes, reduce-under}

@@ -10,7 +10,7 @@ use native.Mathlib.Omega.{arith}
 use lib.ListN.{length, getD, set, length-set, replicate, List·getD-eq-default}
 use lib.Dec.{ltb}
 use borrow.Author.Tests.{lt-ltb, le-ltb, ltb-true, ltb-false}
-use Rattle.rules.specs.Lists.{keep, from}
+use Rattle.rules.specs.Lists.{from}
 use Rattle.rules.specs.Queues.{Queue, push, waits, waiting, ahead, leader, pop, popped, inOrder}
 use Rattle.rules.proofs.Tests.{on-test, on-option, by-test, by-equal}
 use Rattle.rules.proofs.Lists.{keep-few}

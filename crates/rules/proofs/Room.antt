@@ -19,7 +19,7 @@ use Rattle.rules.specs.Boards.{Board, Cell, at, cells, Puzzle}
 use Rattle.rules.specs.Floats.{higher}
 use Rattle.rules.specs.Probing.{Run, CellQueue, Notes, probed, probe}
 use Rattle.rules.specs.Guesses.{Guess, guess, notesAt, rateAt, cellOrder, tally, colourOrder, choose}
-use Rattle.rules.specs.Search.{dead, node, among, others, firstUnsolved}
+use Rattle.rules.specs.Search.{among, others, firstUnsolved}
 use Rattle.rules.specs.Promises.{Distinct}
 use Rattle.rules.proofs.Tests.{on-test, on-option, by-equal, clash, or-false}
 use Rattle.rules.proofs.Lists.{In, first-some, map-in, joined-in, getD-replicate-same, length-from, from-low}

@@ -1,18 +1,17 @@
 -- A turn of probing in each of its ways, and what assuming the colours of a cell comes to, colour by colour.
-use mathlib.Core.Path.{_≡_, refl, sym, ap, ap₂, subst, _∙_}
+use mathlib.Core.Path.{_≡_, refl, ap, subst, _∙_}
 use mathlib.Core.Bool.{Bool, true, false}
 use mathlib.Core.List.{List, [], _∷_, map, List·Memᴰ·head, List·Memᴰ·tail}
 use mathlib.Core.Option.{Option, none, some}
-use Prim.Native.Nat.{ℕ, _+_, _<_}
-use lib.ListN.{length, set}
+use Prim.Native.Nat.{ℕ, _<_}
+use lib.ListN.{set}
 use Rattle.rules.specs.Lists.{keep}
-use Rattle.rules.specs.Loops.{Turn, more, stop, Holds}
+use Rattle.rules.specs.Loops.{more, stop, Holds}
 use Rattle.rules.specs.Sets.{Colour, colours}
 use Rattle.rules.specs.Queues.{pop}
 use Rattle.rules.specs.Boards.{Board, Cell, at, solved, Puzzle}
 use Rattle.rules.specs.Floats.{higher}
 use Rattle.rules.specs.Probing.{Run, CellQueue, Notes, noNotes, Probing, probing, Probed, probed, contradicting, solving, assumedAll, newRound, outcomes, judge, probeStep, probeMeasure, probeOn, probe}
-use Rattle.rules.proofs.Tests.{by-test}
 use Rattle.rules.proofs.Lists.{In}
 use Rattle.rules.proofs.Probing.{probe-falls, probe-turn}
 

@@ -1,20 +1,20 @@
 -- Sets as numbers: bits, membership, and that a set is determined by its members.
-use mathlib.Core.Path.{_≡_, refl, sym, ap, ap₂, subst, _∙_}
-use mathlib.Core.Logic.{_⊎_, inl, inr, _≢_}
-use mathlib.Core.Bool.{Bool, true, false, not, _&&_, _||_, true≢false, false≢true}
+use mathlib.Core.Path.{_≡_, refl, sym, ap, subst, _∙_}
+use mathlib.Core.Logic.{_≢_}
+use mathlib.Core.Bool.{Bool, true, false, not, _&&_}
 use mathlib.Core.List.{List, [], _∷_, map, List·Memᴰ·head, List·Memᴰ·not-nil, List·Memᴰ·eq-of-singleton}
 use Prim.Native.Nat.{ℕ, zero, suc, _+_, _*_, _/_, _%_, _^_, _≤_, _<_, min}
-use native.Mathlib.Nat.{zero-div, pow-suc, div-eq-of-lt, mul-assoc, mul-add, mul-zero, mul-one}
+use native.Mathlib.Nat.{zero-div, pow-suc, div-eq-of-lt, mul-assoc, mul-add}
 use native.Mathlib.Numerals.{one-add}
 use native.Mathlib.Omega.{arith}
 use lib.Bits.{bitAnd, and-shr, and-step}
 use lib.Pow.{shr-shr, pow-pos, pow-mono, pow-lt}
 use lib.ListN.{length}
-use lib.Dec.{eqb, leb, ltb, eqb·suc-zero, eqb·zero-suc, eqb·suc-suc}
-use borrow.Author.Tests.{eqb-true, eqb-false, eq-eqb, ne-eqb, le-leb, leb-true, lt-ltb, ltb-true, ltb-false, not-true}
+use lib.Dec.{eqb, ltb, eqb·suc-zero, eqb·zero-suc, eqb·suc-suc}
+use borrow.Author.Tests.{eqb-true, eqb-false, eq-eqb, ne-eqb, ltb-true, ltb-false, not-true}
 use Rattle.rules.specs.Lists.{keep, any, from, sum, digit}
-use Rattle.rules.specs.Sets.{Colour, bit, _∋_, has, members, setOf, palette, colours, single, empty, only, without, lost, proper}
-use Rattle.rules.proofs.Tests.{on-test, by-test, by-equal, clash, and-true, true-and, same-test}
+use Rattle.rules.specs.Sets.{bit, _∋_, has, members, setOf, palette, colours, single, empty, only, without, lost}
+use Rattle.rules.proofs.Tests.{by-test, by-equal, clash, and-true, true-and, same-test}
 use Rattle.rules.proofs.Lists.{In, keep-in, in-keep, keep-same, keep-few, any-out, any-in, every-out, length-from, from-low, below}
 use Rattle.rules.proofs.Distinct.{Distinct, keep-distinct, from-distinct, distinct-few}
 

@@ -1,7 +1,7 @@
 -- The numbers given back, with every lent byte afterwards: for the search, for reducing one line, for the rate, and for handing out a grid of a list.
 -- Every input has an answer. Where an input is refused, the tests stand in the order in which they are made, and the first that fails gives the number.
-use mathlib.Core.Bool.{Bool, true, false, not, _&&_, _||_}
-use mathlib.Core.List.{List, [], _∷_, _++_}
+use mathlib.Core.Bool.{Bool, true, false, _&&_}
+use mathlib.Core.List.{List, [], _++_}
 use mathlib.Core.Option.{Option, none, some}
 use Prim.Native.Nat.{ℕ, _+_, _*_}
 use lib.ListN.{length, take, drop}
@@ -11,10 +11,9 @@ use Rattle.rules.specs.Lists.{every, joined}
 use Rattle.rules.specs.Sets.{proper}
 use Rattle.rules.specs.Clues.{Clue, within, cluesOf, clueOf}
 use Rattle.rules.specs.Lines.{reduce}
-use Rattle.rules.specs.Boards.{Puzzle}
 use Rattle.rules.specs.Floats.{float, rate}
 use Rattle.rules.specs.Probing.{Run, steps}
-use Rattle.rules.specs.Search.{Limits, Outcome, solvedAs, listed, deadEnd, wholeRun}
+use Rattle.rules.specs.Search.{Outcome, solvedAs, listed, deadEnd, wholeRun}
 
 -- ## The tests
 

@@ -1,11 +1,11 @@
 -- The board, its cells, rows and columns. A board is a list of sets, w·h of them, row by row; a grid is a board all of whose cells are solved.
 -- Lines are numbered in clue order: rows 0 to h - 1 from the top, then columns h to h + w - 1 from the left.
-use mathlib.Core.Bool.{Bool, true, false, not, _&&_, _||_}
+use mathlib.Core.Bool.{Bool, true, false, not, _&&_}
 use mathlib.Core.List.{List, [], _∷_, _++_, map}
 use Prim.Native.Nat.{ℕ, suc, _+_, _-_, _*_, _/_, _%_}
 use lib.ListN.{length, getD, set}
 use lib.Dec.{eqb, leb, ltb}
-use Rattle.rules.specs.Lists.{keep, every, any, sum, from}
+use Rattle.rules.specs.Lists.{keep, every, sum, from}
 use Rattle.rules.specs.Sets.{Colour, single, only, without}
 use Rattle.rules.specs.Clues.{Clue}
 

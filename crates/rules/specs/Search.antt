@@ -10,7 +10,7 @@ use Rattle.rules.specs.Loops.{Turn, more, stop, run}
 use Rattle.rules.specs.Sets.{Colour, has, colours, single, empty}
 use Rattle.rules.specs.Boards.{Board, Cell, at, cells, put, remove, solved, size, newly, same, Puzzle}
 use Rattle.rules.specs.Propagation.{propagate, check}
-use Rattle.rules.specs.Probing.{Event, guessed, Run, steps, event, CellQueue, startQueue, pushBoth, Notes, Probed, contradiction, probed, probe}
+use Rattle.rules.specs.Probing.{guessed, Run, steps, event, CellQueue, startQueue, pushBoth, Notes, Probed, contradiction, probed, probe}
 use Rattle.rules.specs.Guesses.{Guess, guess, choose}
 
 pub record Limits : Type 0 where

@@ -1,9 +1,9 @@
 -- Sets of small numbers as numbers: c is in s when bit c of s is 1. A cell is such a set of colours, one byte: bit 0 is blank, bit c is colour c.
 -- Nothing here asks how many colours a puzzle has. A byte has room for blank and seven.
 use mathlib.Core.Path.{_≡_}
-use mathlib.Core.Bool.{Bool, true, false, not, _&&_}
+use mathlib.Core.Bool.{Bool, not, _&&_}
 use mathlib.Core.List.{List, map}
-use Prim.Native.Nat.{ℕ, suc, _/_, _%_, _^_, _<_}
+use Prim.Native.Nat.{ℕ, suc, _/_, _%_, _^_}
 use lib.ListN.{length}
 use lib.Dec.{eqb, leb, ltb}
 use Rattle.rules.specs.Lists.{keep, any, sum, from}

@@ -1,5 +1,4 @@
-use Prim.Native.Nat.{ℕ, _+_, _-_, _≤_, _<_}
-use lib.ListN.{length}
+use Prim.Native.Nat.{_-_, _≤_}
 use borrow.Author.Needs.{needs}
 use Rattle.line_replay.proofs.replay.Statement.{statement}
 use Rattle.line_replay.proofs.replay.Tie as tie

@@ -3,7 +3,7 @@ use mathlib.Core.Path.{_≡_, refl}
 use mathlib.Core.List.{List, [], _∷_}
 use Prim.Native.Nat.{ℕ}
 use Rattle.rules.specs.Floats.{float}
-use Rattle.rules.specs.Answers.{Asked, Answer, solve, untouched, LineAnswer, line, reduceLine, RateAnswer, rateAsked, PartAnswer, noPart, gridOf}
+use Rattle.rules.specs.Answers.{Asked, Answer, solve, untouched, line, reduceLine, rateAsked, noPart, gridOf}
 use Rattle.rules.specs.Examples.Computed.{computed}
 
 -- Twin with limits, its clue bytes, cells and list

@@ -1,7 +1,7 @@
 -- Clue bytes, worked: a 2 by 1 puzzle of two colours, whose one row has a block of colour 2 and length 2, and whose columns have a block of it each.
 use mathlib.Core.Path.{_≡_, refl}
 use mathlib.Core.List.{List, [], _∷_}
-use mathlib.Core.Option.{Option, none, some}
+use mathlib.Core.Option.{none, some}
 use Prim.Native.Nat.{ℕ}
 use Rattle.rules.specs.Clues.{Block, Clue, clueBytes, cluesOf, clueOf}
 use Rattle.rules.specs.Examples.Computed.{computed}

@@ -1,11 +1,9 @@
 -- Rates and priorities, worked: values that are not whole, given by the significand and the exponent of the f64.
 use mathlib.Core.Path.{_≡_, refl}
 use mathlib.Core.Bool.{true, false}
-use mathlib.Core.List.{List, [], _∷_}
-use Prim.Native.Nat.{ℕ}
-use lib.IntN.{pos, negsuc}
-use lib.Ieee.{Float, fin}
-use Rattle.rules.specs.Floats.{float, higher, rate, priorityOf}
+use lib.IntN.{negsuc}
+use lib.Ieee.{fin}
+use Rattle.rules.specs.Floats.{higher, rate, priorityOf}
 use Rattle.rules.specs.Examples.Computed.{computed}
 
 -- the root of 2, 0x3FF6A09E667F3BCD: an odd significand, here times 2 ^ -52

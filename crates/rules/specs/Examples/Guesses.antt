@@ -1,11 +1,8 @@
 -- Choosing guesses, worked.
 use mathlib.Core.Path.{_≡_, refl}
-use mathlib.Core.List.{List, [], _∷_}
-use mathlib.Core.Option.{Option, none, some}
-use Prim.Native.Nat.{ℕ}
-use Rattle.rules.specs.Boards.{Board}
-use Rattle.rules.specs.Probing.{Notes}
-use Rattle.rules.specs.Guesses.{Guess, guess, choose}
+use mathlib.Core.List.{[], _∷_}
+use mathlib.Core.Option.{none, some}
+use Rattle.rules.specs.Guesses.{guess, choose}
 use Rattle.rules.specs.Examples.Computed.{computed}
 
 -- cells 1 and 3 tie by (4, 0), which is 2.0: cell 1 first. Cell 2 has (9, 3), which is 4.5: before both. Cell 0 is solved: skipped, whatever it solves. Cell 4 was not popped.

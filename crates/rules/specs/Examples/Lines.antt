@@ -1,10 +1,10 @@
 -- Lines and clues, worked.
 use mathlib.Core.Path.{_≡_, refl}
 use mathlib.Core.Bool.{true, false}
-use mathlib.Core.List.{List, [], _∷_}
-use mathlib.Core.Option.{Option, none, some}
+use mathlib.Core.List.{[], _∷_}
+use mathlib.Core.Option.{none, some}
 use Prim.Native.Nat.{ℕ}
-use Rattle.rules.specs.Clues.{Block, Clue}
+use Rattle.rules.specs.Clues.{Block}
 use Rattle.rules.specs.Lines.{Meets, nothing, blank, block, fits, reduce}
 use Rattle.rules.specs.Examples.Computed.{computed}
 

@@ -1,10 +1,9 @@
 -- The queue and probing, worked.
 use mathlib.Core.Path.{_≡_, refl}
-use mathlib.Core.List.{List, [], _∷_}
-use mathlib.Core.Option.{Option, none, some}
+use mathlib.Core.List.{[], _∷_}
+use mathlib.Core.Option.{none, some}
 use Prim.Native.Nat.{ℕ}
-use Rattle.rules.specs.Sets.{Colour}
-use Rattle.rules.specs.Clues.{Block, Clue}
+use Rattle.rules.specs.Clues.{Clue}
 use Rattle.rules.specs.Boards.{Board, Puzzle}
 use Rattle.rules.specs.Queues.{Queue, push, pop}
 use Rattle.rules.specs.Floats.{float, higher}

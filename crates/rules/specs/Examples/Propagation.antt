@@ -1,10 +1,9 @@
 -- Propagating, worked on Twin: 2 by 2, each line one block of 1.
 use mathlib.Core.Path.{_≡_, refl}
 use mathlib.Core.Bool.{true, false}
-use mathlib.Core.List.{List, [], _∷_}
-use mathlib.Core.Option.{Option, none, some}
-use Prim.Native.Nat.{ℕ}
-use Rattle.rules.specs.Clues.{Block, Clue}
+use mathlib.Core.List.{[], _∷_}
+use mathlib.Core.Option.{none, some}
+use Rattle.rules.specs.Clues.{Clue}
 use Rattle.rules.specs.Boards.{Puzzle, lineCells, beside, newly}
 use Rattle.rules.specs.Propagation.{propagate, check}
 use Rattle.rules.specs.Examples.Computed.{computed}

@@ -1,8 +1,7 @@
 -- Sets of colours, worked.
 use mathlib.Core.Path.{_≡_, refl}
 use mathlib.Core.Bool.{true, false}
-use mathlib.Core.List.{List, [], _∷_}
-use Prim.Native.Nat.{ℕ}
+use mathlib.Core.List.{[], _∷_}
 use Rattle.rules.specs.Sets.{has, colours, single, empty, only, without, lost, proper}
 use Rattle.rules.specs.Examples.Computed.{computed}
 

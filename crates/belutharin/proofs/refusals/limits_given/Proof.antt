@@ -1,6 +1,4 @@
 -- By the three tests.
-use mathlib.Core.Path.{refl}
-use lib.Dec.{leb}
 use borrow.Author.Tests.{le-leb, lt-leb}
 use Rattle.belutharin.proofs.refusals.limits_given.Statement.{statement}
 use Rattle.belutharin.proofs.refusals.limits_given.Tie as tie

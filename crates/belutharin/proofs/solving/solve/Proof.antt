@@ -1,5 +1,5 @@
 -- By the tests in their order; an input that passes all is searched. What the rules answer keeps the promise (`promised`).
-use mathlib.Core.Path.{refl, sym, ap, _∙_}
+use mathlib.Core.Path.{sym, ap, _∙_}
 use native.Mathlib.Omega.{arith}
 use borrow.Author.Tests.{not-true, not-false}
 use Rattle.belutharin.specs.Answers.{asked, answer}

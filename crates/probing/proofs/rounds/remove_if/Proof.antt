@@ -1,4 +1,3 @@
-use mathlib.Core.Path.{_∙_}
 use borrow.Author.Needs.{needs}
 use Rattle.probing.proofs.rounds.remove_if.Statement.{statement}
 use Rattle.probing.proofs.rounds.remove_if.Tie as tie
