@@ -1,6 +1,6 @@
 # The commands of this repository. `make report` proves the search and shows it at work; `make rules` proves the definitions with their worked examples; `make test` runs every test.
 
-.PHONY: rules report test tidy oracle mends library bindings differences benchmark
+.PHONY: rules report test tidy oracle mends alike library bindings differences benchmark
 
 # `rt check` runs the program and holds what it writes to its file `stdout`, which is printed then.
 report:
@@ -19,9 +19,13 @@ tidy:
 oracle:
 	@tools/oracle
 
-# With a mend taken out, a law of the promise fails in the rules themselves.
+# With a mend taken out of rules and code alike, laws of the promise fail in the rules themselves.
 mends:
 	@tools/mends
+
+# And with the promise put aside, the code is proved against the rules without the mend.
+alike:
+	@tools/mends alike
 
 # The library for C and Rust: target/lib/libbelutharin.a.
 library:

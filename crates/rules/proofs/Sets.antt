@@ -189,10 +189,6 @@ within-le s t f = within-le-below s s t (below-pow s) f
 pub within-lt : (s t x : ℕ) → ((c : ℕ) → has s c ≡ true → has t c ≡ true) → has t x ≡ true → has s x ≡ false → s < t
 within-lt s t x f p q = let l = within-le s t f in by-equal s t (λ e. clash (ap (λ v. has v x) e ∙ p) q) (λ e. omega arith)
 
--- a set is the set of its members
-pub setOf-members : (n s : ℕ) → s < 2 ^ n → setOf n (has s) ≡ s
-setOf-members n s h = same-set n (setOf n (has s)) s (setOf-low n (has s)) h (λ c l. has-setOf n (has s) c l)
-
 -- tests that agree below n give the same set
 pub setOf-same : (n : ℕ) (p q : ℕ → Bool) → ((c : ℕ) → c < n → p c ≡ q c) → setOf n p ≡ setOf n q
 unfolding setOf
