@@ -1,3 +1,4 @@
+-- The invariant: the largest count is at most 256. The measure is how far it is from there.
 use Prim.Native.Nat.{_-_, _≤_}
 use borrow.Author.Needs.{needs}
 use Rattle.rate_check.proofs.all_pairs.Statement.{statement}

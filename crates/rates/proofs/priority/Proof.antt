@@ -1,3 +1,4 @@
+-- Conversions are within range, and the sum is added in the order of the rules.
 use borrow.Author.Needs.{needs}
 use mathlib.Core.Path.{refl}
 use Rattle.rules.specs.Floats.{priorityOf}

@@ -1,3 +1,4 @@
+-- The root is the rules' root, and the sum is that of the same two numbers.
 use borrow.Author.Needs.{needs}
 use mathlib.Core.Path.{ap}
 use lib.Ieee.{Float, binary64, add}

@@ -1,3 +1,4 @@
+-- The invariant asks nothing. The measure is the number of cases that are left.
 use Prim.Native.Nat.{_-_, _≤_}
 use borrow.Author.Needs.{needs}
 use Rattle.replay.proofs.all.Statement.{statement}

@@ -1,3 +1,4 @@
+-- By whether there is room: writing a byte keeps the length.
 use lib.ListN.{length-set}
 use borrow.Author.Needs.{needs}
 use Rattle.vectors.proofs.put.Statement.{statement}

@@ -1,3 +1,4 @@
+-- By whether the cell's row is the first.
 use borrow.Author.Needs.{needs}
 use borrow.Author.Tests.{le-leb, lt-leb}
 use Rattle.probing.proofs.neighbours.above.Statement.{statement}

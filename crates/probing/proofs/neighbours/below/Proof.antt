@@ -1,3 +1,4 @@
+-- By whether the cell's row is the last; the cell below has a number that is still small.
 use native.Mathlib.Nat.{div-le-self}
 use native.Mathlib.Omega.{arith}
 use borrow.Author.Needs.{needs}

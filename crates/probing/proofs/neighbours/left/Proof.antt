@@ -1,3 +1,4 @@
+-- By whether the cell's column is the first; a column past it means a cell past it.
 use native.Mathlib.Nat.{mod-le}
 use native.Mathlib.Omega.{arith}
 use borrow.Author.Needs.{needs}

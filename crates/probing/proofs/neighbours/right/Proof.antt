@@ -1,3 +1,4 @@
+-- By whether the cell's column is the last; a cell's column is at most its number, so that nothing overflows.
 use native.Mathlib.Nat.{mod-le}
 use native.Mathlib.Omega.{arith}
 use borrow.Author.Needs.{needs}

@@ -1,3 +1,4 @@
+-- By whether the colour is to be removed.
 use borrow.Author.Needs.{needs}
 use Rattle.probing.proofs.rounds.remove_if.Statement.{statement}
 use Rattle.probing.proofs.rounds.remove_if.Tie as tie

@@ -1,3 +1,4 @@
+-- By whether the cell is solved.
 use borrow.Author.Needs.{needs}
 use Rattle.probing.proofs.start.solved_at.Statement.{statement}
 use Rattle.probing.proofs.start.solved_at.Tie as tie

@@ -1,3 +1,4 @@
+-- The invariant: the smallest count is no larger than the largest, so that the rate is legal. The measure is their difference.
 use Prim.Native.Nat.{_-_, _≤_}
 use borrow.Author.Needs.{needs}
 use Rattle.rate_check.proofs.Summary.with_row.Statement.{statement}

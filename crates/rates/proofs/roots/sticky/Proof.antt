@@ -1,3 +1,4 @@
+-- By whether something is left over.
 use borrow.Author.Needs.{needs}
 use mathlib.Core.Path.{sym}
 use native.Mathlib.Omega.{arith}

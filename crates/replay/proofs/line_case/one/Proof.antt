@@ -1,3 +1,4 @@
+-- Lists of bytes are read within their arrays, and a part of an array has the length that was read.
 use mathlib.Core.Path.{sym}
 use lib.Seq.{length-take-le}
 use borrow.Author.Needs.{needs}

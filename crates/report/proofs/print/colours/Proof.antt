@@ -1,3 +1,4 @@
+-- The invariant asks nothing. The measure is the number of cells that are left.
 use Prim.Native.Nat.{_-_, _≤_}
 use lib.ListN.{length}
 use borrow.Author.Needs.{needs}
