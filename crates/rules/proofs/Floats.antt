@@ -55,5 +55,5 @@ pub priority-plain : (unsolved rowSolved rowLength columnSolved columnLength : �
 priority-plain u r w c h h₁ h₂ h₃ h₄ h₅ h₆ = priority-at-most u r w c h h₁ h₂ h₃ h₄ h₅ h₆ .number
 
 -- the two priorities of neighbours
-pub ten-plain : Plain (float 10)
-ten-plain = float-plain 10 (lit≤ tt)
+pub neighbours-plain : Plain (float 10) × Plain (float 20)
+neighbours-plain = (float-plain 10 (lit≤ tt), float-plain 20 (lit≤ tt))
