@@ -19,11 +19,11 @@ tidy:
 oracle:
 	@tools/oracle
 
-# With a mend taken out of rules and code alike, laws of the promise fail in the rules themselves.
+# With a mend taken out of rules and code alike, laws of the promise fail in the rules themselves, and its opposite is proved.
 mends:
 	@tools/mends
 
-# And with the promise put aside, the code is proved against the rules without the mend.
+# And the code is proved against the rules, both without the mend. It is no part of the gate, since it takes eleven minutes.
 alike:
 	@tools/mends alike
 
