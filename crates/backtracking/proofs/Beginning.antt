@@ -11,6 +11,7 @@ use Rattle.rules.specs.Boards.{at}
 use Rattle.rules.specs.Probing.{Run}
 use Rattle.rules.specs.Guesses.{Guess, guess}
 use Rattle.rules.specs.Search.{notDead, left, node, over, note, met}
+use Rattle.rules.specs.Answers.{mostWaiting}
 use Rattle.rules.proofs.Tests.{on-test, on-number, clash}
 use Rattle.boards.specs.Board.{boardOf}
 use Rattle.cells.specs.declared.CellNo.{CellNo}
@@ -51,7 +52,7 @@ module _ (t : Node) (masks list : List ℕ) (l : Limits) (d : ℕ) (few : t .sta
   tried = begins cell colour
 
   -- a limit is met
-  pub begins-met : (k : ℕ) → t .guesses .head ≤ 1024 → k ≡ limitMet (t .stats) l d → (k ≡ 0 → ⊥) → Begins t masks list l d (turns (stopped t (noted k (t .stats)))) list
+  pub begins-met : (k : ℕ) → t .guesses .head ≤ mostWaiting → k ≡ limitMet (t .stats) l d → (k ≡ 0 → ⊥) → Begins t masks list l d (turns (stopped t (noted k (t .stats)))) list
   begins-met k h e f = record {
     size = size-same (t .board);
     few = few;

@@ -10,7 +10,7 @@ use Rattle.rules.specs.Boards as Rules
 use Rattle.rules.specs.Boards.{at, remove}
 use Rattle.rules.specs.Probing.{Run}
 use Rattle.rules.specs.Guesses.{Guess, guess}
-use Rattle.rules.specs.Answers.{mostColours}
+use Rattle.rules.specs.Answers.{mostColours, mostWaiting}
 use Rattle.rules.specs.Search.{End, dead, notDead, others}
 use Rattle.rules.proofs.Tests.{on-test, clash}
 use Rattle.rules.proofs.Sets.{member, member-low}
@@ -51,7 +51,7 @@ module _ (t : Node) (c x : ℕ) (isdead : Bool) (masks list : List ℕ) (l : Lim
       isdead ≡ isDead d → RunIs g s list s₁ → Fine g b → Few g gs → has (at b c) x ≡ true → (d ≡ dead → s .grids < l .grids) → TurnTo g r out (after (g .puzzle) b c x gs p those d s₁)
 
   -- it is noted as made
-  pub ends-made : (made : List ℕ) → s .grids ≤ l .grids → t .guesses .head ≤ 1024 → isdead ≡ false → ((those : List Guess) → Made (t .made) those → Made made (guess c x ∷ those)) →
+  pub ends-made : (made : List ℕ) → s .grids ≤ l .grids → t .guesses .head ≤ mostWaiting → isdead ≡ false → ((those : List Guess) → Made (t .made) those → Made made (guess c x ∷ those)) →
       Ends t c x isdead masks list l s (marked made) list
   ends-made made few h e f = record { size = size-same (t .board); few = few; within = h; to = go }
     where
@@ -70,7 +70,7 @@ module _ (t : Node) (c x : ℕ) (isdead : Bool) (masks list : List ℕ) (l : Lim
     gone-cell e = sym (cell-at a c (subst (λ n. c < n) (sym (size-cells gone-size)) low)) ∙ ap (λ b. at b c) (gone-board e)
 
     -- it was the cell's last colour
-    pub ends-last : t .guesses .head ≤ 1024 → getD (a .cells) c 0 ≡ 0 →
+    pub ends-last : t .guesses .head ≤ mostWaiting → getD (a .cells) c 0 ≡ 0 →
         Ends t c x isdead masks list l s (emptied a) list
     ends-last h z = record { size = gone-size; few = few; within = h; to = go }
       where
@@ -100,14 +100,14 @@ module _ (t : Node) (c x : ℕ) (isdead : Bool) (masks list : List ℕ) (l : Lim
         turn g b gs those i j fine room (ends e f u) (k, q, r, m) below = (k, (q, r, m))
         turn g b gs those i j fine room (goes e u) (k, q, m) below =
             let small : at e c < 2 ^ suc mostColours = sub-low c (2 ^ suc mostColours) (⊑-trans below (remove-sub b c x)) (fine .low c) in
-            let fits = Room.waiting-1024 mostColours (t .board .w * t .board .h) (others c x (colours (at e c)) gs) (omega arith) (few-cells (t .board) sized)
+            let fits = Room.waiting-few mostColours (t .board .w * t .board .h) (others c x (colours (at e c)) gs) (omega arith) (few-cells (t .board) sized)
             (Room.others-waiting mostColours (t .board .w * t .board .h) c x (colours (at e c)) gs low (λ y n. member-low (suc mostColours) (at e c) y small (member 8 (at e c) n .1)) room) in
             let same : others c x (colours set) (guessesOf (t .guesses)) ≡ others c x (colours (at e c)) gs =
             ap (λ v. others c x (colours v) (guessesOf (t .guesses))) (read-at q) ∙ ap (others c x (colours (at e c))) (i .guesses) in (
               k,
               record {
                 board = q;
-                waiting = record { within = waits .within; guesses = waits .guesses (subst (λ (hs : List Guess). length hs ≤ 1024) (sym same) fits) ∙ same };
+                waiting = record { within = waits .within; guesses = waits .guesses (subst (λ (hs : List Guess). length hs ≤ mostWaiting) (sym same) fits) ∙ same };
                 probed = refl;
                 made = j;
                 run = m;

@@ -12,6 +12,7 @@ use Rattle.rules.specs.Probing.{Run}
 use Rattle.rules.specs.Guesses.{guess}
 use Rattle.rules.specs.Search as Search
 use Rattle.rules.specs.Search.{Left, Tried, node, Spent, Pass, over, ranOut, passStep, passMeasure, pass, refill, afterPass}
+use Rattle.rules.specs.Answers.{mostWaiting}
 use Rattle.rules.proofs.Tests.{clash}
 use Rattle.rules.proofs.Ends.{pass-falls, pass-turn}
 use Rattle.boards.specs.Board.{boardOf, SameSize}
@@ -86,7 +87,7 @@ module _ {w h : ℕ} {masks : List ℕ} (g : Setting w h masks) (l : Given) (lef
       go (stop (ranOut a)) i = absurd i
 
   -- none waits
-  pub follows-none : {t : Node} {list : List ℕ} {n : Search.Node} (f : Follows t list n) → 1024 ≤ t .guesses .head → PassTo g (on t) list (passAt n)
+  pub follows-none : {t : Node} {list : List ℕ} {n : Search.Node} (f : Follows t list n) → mostWaiting ≤ t .guesses .head → PassTo g (on t) list (passAt n)
   follows-none {t} {list} {n} f k =
       subst (PassTo g (on t) list) (sym (f .same ∙ pass-turn (g .puzzle) (limitsOf l) tryingAt (depthOf l left) (f .now))) (go (f .now) (f .is))
     where
@@ -100,11 +101,11 @@ pub record Passing (t₀ : Node) (masks list₀ : List ℕ) (l : Given) (left : 
   pub size : SameSize (t₀ .board) (t .board)
   pub few : t .stats .grids ≤ l .grids
   pub long : length list ≡ length list₀
-  pub within : t .guesses .head ≤ 1024
+  pub within : t .guesses .head ≤ mostWaiting
   pub follows : (g : Setting (t₀ .board .w) (t₀ .board .h) masks) (n : Search.Node) → NodeIs g t₀ list₀ n → NodeFine g n → Follows g l left t list n
 
 module _ {t₀ : Node} {masks list₀ : List ℕ} {l : Given} {left : ℕ} where
-  pub passing-starts : t₀ .stats .grids ≤ l .grids → t₀ .guesses .head ≤ 1024 → Passing t₀ masks list₀ l left t₀ list₀
+  pub passing-starts : t₀ .stats .grids ≤ l .grids → t₀ .guesses .head ≤ mostWaiting → Passing t₀ masks list₀ l left t₀ list₀
   passing-starts f k = record {
     size = record { wide = refl; high = refl };
     few = f;
@@ -121,7 +122,7 @@ module _ {t₀ : Node} {masks list₀ : List ℕ} {l : Given} {left : ℕ} where
         size-at (λ a b. (g : Setting a b masks) × NodeIs g t list (f .now) × NodeFine g (f .now)) (i .size) (m .setting, f .is, f .fine) in
         record { setting = r .0; node = f .now; is = r .1; fine = r .2 }
 
-    pub passing-done : {u : Turned} → u ≡ on t → 1024 ≤ t .guesses .head → Passes t₀ masks list₀ l left u list
+    pub passing-done : {u : Turned} → u ≡ on t → mostWaiting ≤ t .guesses .head → Passes t₀ masks list₀ l left u list
     passing-done e k = subst (λ u. Passes t₀ masks list₀ l left u list) (sym e)
         (record { size = i .size; few = i .few; within = i .within; to = λ g n is fine. follows-none g l left (i .follows g n is fine) k })
 
@@ -148,12 +149,12 @@ module _ {t₀ : Node} {masks list₀ : List ℕ} {l : Given} {left : ℕ} where
 
 -- the measure of a pass: the colours on the board, and the guesses that wait
 abbrev pub nodeSize : Node → ℕ
-nodeSize t = size (boardOf (t .board)) * 9 + (1024 - t .guesses .head)
+nodeSize t = size (boardOf (t .board)) * 9 + (mostWaiting - t .guesses .head)
 
 node-size : {w h : ℕ} {masks : List ℕ} (g : Setting w h masks) (t : Node) (list : List ℕ) (n : Search.Node) → NodeIs g t list n → passMeasure n ≡ nodeSize t
 node-size g t list (node b gs p made s) i =
     let e : size b ≡ size (boardOf (t .board)) = ap size (sym (i .board)) in
-    let k : length gs ≡ 1024 - t .guesses .head = ap length (sym (i .waiting .guesses)) ∙ guesses-length (t .guesses) in
+    let k : length gs ≡ mostWaiting - t .guesses .head = ap length (sym (i .waiting .guesses)) ∙ guesses-length (t .guesses) in
     omega arith
 
 pub turn-less : {t : Node} {masks list : List ℕ} {l : Given} {left : ℕ} {u : Turned} {out : List ℕ} →

@@ -8,6 +8,7 @@ use Rattle.rules.specs.Loops.{stop}
 use Rattle.rules.specs.Boards.{solved}
 use Rattle.rules.specs.Guesses.{Guess}
 use Rattle.rules.specs.Search.{notDead, left, Spent, spent, note, met, anyClosed, firstUnsolved}
+use Rattle.rules.specs.Answers.{mostWaiting}
 use Rattle.rules.proofs.Tests.{on-test, on-number, clash}
 use Rattle.boards.specs.Board.{boardOf}
 use Rattle.runs.specs.declared.limits.Limits.{Limits}
@@ -54,7 +55,7 @@ module _ (t : Node) (masks list : List ℕ) (l : Limits) (d : ℕ) (few : t .sta
   Case r = (g : Setting (t .board .w) (t .board .h) masks) (u : Spent) → SpentIs g t list u → SpentFine g u → RefillTo g r list (refilled (g .puzzle) (limitsOf l) d u)
 
   -- a limit is met
-  pub refills-met : (k : ℕ) → t .guesses .head ≤ 1024 → k ≡ limitMet (t .stats) l d → (k ≡ 0 → ⊥) → Refills t masks list l d (stopped t (noted k (t .stats)))
+  pub refills-met : (k : ℕ) → t .guesses .head ≤ mostWaiting → k ≡ limitMet (t .stats) l d → (k ≡ 0 → ⊥) → Refills t masks list l d (stopped t (noted k (t .stats)))
   refills-met k h e f = record { size = size-same (t .board); few = few; within = h; to = go }
     where
       go : Case (stopped t (noted k (t .stats)))
@@ -64,7 +65,7 @@ module _ (t : Node) (masks list : List ℕ) (l : Limits) (d : ℕ) (few : t .sta
           (λ n z. (refl, (refl, is .board, noted-is g l d (is .run) k n e z)))
 
   -- the board is solved, or a cell is closed
-  pub refills-over : t .guesses .head ≤ 1024 → limitMet (t .stats) l d ≡ 0 → ((those : List Guess) → Made (t .made) those → solved (boardOf (t .board)) || anyClosed (boardOf (t .board)) those ≡ true) →
+  pub refills-over : t .guesses .head ≤ mostWaiting → limitMet (t .stats) l d ≡ 0 → ((those : List Guess) → Made (t .made) those → solved (boardOf (t .board)) || anyClosed (boardOf (t .board)) those ≡ true) →
       Refills t masks list l d (stopped t (t .stats))
   refills-over h e f = record { size = size-same (t .board); few = few; within = h; to = go }
     where

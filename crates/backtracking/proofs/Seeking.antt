@@ -13,6 +13,7 @@ use Rattle.rules.specs.Probing.{Run}
 use Rattle.rules.specs.Guesses.{Guess}
 use Rattle.rules.specs.Search as Search
 use Rattle.rules.specs.Search.{Limits, notDead, Left, Tried, node, Spent, spent, Pass, over, ranOut, note, deeper, met, pass, again, anyClosed, spentMeasure, afterPass, nodeFrom, tryGuess, search}
+use Rattle.rules.specs.Answers.{mostWaiting}
 use Rattle.rules.proofs.Tests.{clash}
 use Rattle.rules.proofs.Ends.{spent-falls}
 use Rattle.boards.specs.declared.board.Board.{Board}
@@ -119,7 +120,7 @@ pub record Rested (t₀ : Node) (masks list₀ : List ℕ) (l : Given) (left : �
   pub size : SameSize (t₀ .board) (t .board)
   pub few : t .stats .grids ≤ l .grids
   pub long : length list ≡ length list₀
-  pub within : t .guesses .head ≤ 1024
+  pub within : t .guesses .head ≤ mostWaiting
   pub follows : (g : Setting (t₀ .board .w) (t₀ .board .h) masks) (end : Left) → Spent-as g l left end t₀ list₀ → Spent-as g l left end t list
 
 -- what a node is begun as, and how it is left
@@ -130,7 +131,7 @@ abbrev pub leftAs : Turned → Ended
 leftAs u = record { dead = u .dead; board = u .node .board; stats = u .node .stats }
 
 module _ {t₀ : Node} {masks list₀ : List ℕ} {l : Given} {left : ℕ} where
-  pub rested-starts : t₀ .stats .grids ≤ l .grids → t₀ .guesses .head ≤ 1024 → Rested t₀ masks list₀ l left t₀ list₀
+  pub rested-starts : t₀ .stats .grids ≤ l .grids → t₀ .guesses .head ≤ mostWaiting → Rested t₀ masks list₀ l left t₀ list₀
   rested-starts f k = record { size = size-same (t₀ .board); few = f; long = refl; within = k; follows = λ g end i. i }
 
   pub rested-on : {t : Node} {list : List ℕ} → Rested t₀ masks list₀ l left t list → {q : Turned} → Refills t masks list l (depthOf l left) q → q .over ≡ false →
@@ -160,14 +161,14 @@ module _ (b : Board) (waiting : Guesses) (masks list₀ : List ℕ) (l : Given) 
     pub size : SameSize b (n .board)
     pub few : n .stats .grids ≤ l .grids
     pub long : length list ≡ length list₀
-    pub within : n .guesses .head ≤ 1024
+    pub within : n .guesses .head ≤ mostWaiting
     pub follows : Ends-as (λ g end. Begun-as g l left end n list)
 
   pub record Resting : Type 0 where
     pub size : SameSize b (n .board)
     pub few : n .stats .grids ≤ l .grids
     pub long : length list ≡ length list₀
-    pub within : n .guesses .head ≤ 1024
+    pub within : n .guesses .head ≤ mostWaiting
     pub follows : Ends-as (λ g end. Spent-as g l left end n list)
 
 module _ {b : Board} {waiting : Guesses} {masks list₀ : List ℕ} {l : Given} {left : ℕ} {s : Stats} where
@@ -185,7 +186,7 @@ module _ {b : Board} {waiting : Guesses} {masks list₀ : List ℕ} {l : Given} 
   })
 
   -- the node begins
-  pub seek-begins : {deepened : Stats} → deepened ≡ Counts.deeper (depthOf l left) s → limitMet s l (depthOf l left) ≡ 0 → 1 ≤ left → left ≤ l .depth + 1 → s .grids ≤ l .grids → waiting .head ≤ 1024 →
+  pub seek-begins : {deepened : Stats} → deepened ≡ Counts.deeper (depthOf l left) s → limitMet s l (depthOf l left) ≡ 0 → 1 ≤ left → left ≤ l .depth + 1 → s .grids ≤ l .grids → waiting .head ≤ mostWaiting →
       Seeking b waiting masks list₀ l left s (begun b waiting deepened) list₀
   seek-begins e m p q f h = record {
     size = size-same b;

@@ -14,7 +14,7 @@ use Rattle.rules.specs.Answers.{mostColours}
 use Rattle.rules.specs.Search as Search
 use Rattle.rules.specs.Search.{Left, Tried, tried, dead, notDead, note, ended, guessDeeper, search}
 use Rattle.rules.proofs.Tests.{clash}
-use Rattle.rules.proofs.Room.{waiting-1024}
+use Rattle.rules.proofs.Room.{waiting-few}
 use Rattle.boards.specs.declared.board.Board.{Board}
 use Rattle.boards.specs.Board.{boardOf, Sized, SameSize}
 use Rattle.boards.proofs.Sizes.{few-cells}
@@ -211,7 +211,7 @@ module _ (left : ℕ) {b : Board} {c x : ℕ} {masks list : List ℕ} {l : Given
 
             module _ (sized : Sized b) {waiting : Guesses} (chosen : IfRoom chosen-guesses waiting) where
               chosen-waits : (g : Setting (b .w) (b .h) masks) → Few g chosen-guesses → Waiting chosen-guesses waiting
-              chosen-waits g f = record { within = chosen .within; guesses = chosen .guesses (waiting-1024 mostColours (b .w * b .h) chosen-guesses (omega arith) (few-cells b sized) f) }
+              chosen-waits g f = record { within = chosen .within; guesses = chosen .guesses (waiting-few mostColours (b .w * b .h) chosen-guesses (omega arith) (few-cells b sized) f) }
 
               pub deeper-stands : GuessStands b c x masks list s → SearchStands (p .board) waiting masks last (p .stats)
               deeper-stands m =

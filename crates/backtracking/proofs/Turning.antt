@@ -12,7 +12,7 @@ use Rattle.rules.specs.Boards as Rules
 use Rattle.rules.specs.Boards.{at, Puzzle}
 use Rattle.rules.specs.Probing.{Run, steps}
 use Rattle.rules.specs.Guesses.{Guess, guess}
-use Rattle.rules.specs.Answers.{mostColours}
+use Rattle.rules.specs.Answers.{mostColours, mostWaiting}
 use Rattle.rules.specs.Search as Search
 use Rattle.rules.specs.Search.{Limits, End, dead, notDead, Tried, tried, node, Pass, met, afterGuess}
 use Rattle.rules.proofs.Tests.{on-test, on-number, clash}
@@ -55,7 +55,7 @@ module _ (z : Puzzle) (l : Limits) (d : ℕ) (b : Rules.Board) (c x : ℕ) (gs :
       (λ _. inr (more (node b gs p made s), refl)))
       (λ m _. inr (stop (Search.over (Search.left notDead b (Search.note (suc m) s))), refl))
 
-module _ (left : ℕ) {t : Node} {masks list : List ℕ} {l : Given} (waits : t .guesses .head < 1024) {r : Begun} {out : List ℕ} (w : Begins t masks list l (depthOf l left) r out) where
+module _ (left : ℕ) {t : Node} {masks list : List ℕ} {l : Given} (waits : t .guesses .head < mostWaiting) {r : Begun} {out : List ℕ} (w : Begins t masks list l (depthOf l left) r out) where
   none-waits : {P : Type 0} → Waiting [] (t .guesses) → P
   none-waits i = absurd (let e = ap length (i .guesses) in omega (arith, guesses-length (t .guesses)))
 

@@ -10,6 +10,7 @@ use Rattle.rules.specs.Probing.{Run, CellQueue}
 use Rattle.rules.specs.Guesses as Choosing
 use Rattle.rules.specs.Search as Search
 use Rattle.rules.specs.Search.{Tried, Spent, End, dead, node, passStep, pass, tryGuess, search}
+use Rattle.rules.specs.Answers.{mostWaiting}
 use Rattle.boards.specs.declared.board.Board.{Board}
 use Rattle.boards.specs.Board.{boardOf, SameSize}
 use Rattle.queues.specs.Entries.{Holds}
@@ -70,7 +71,7 @@ BeforeTo g r list (tries c x n) = (r .tries ≡ true) × (r .cell .0 ≡ c) × (
 pub record Begins (t : Node) (masks list : List ℕ) (l : Given) (d : ℕ) (r : Begun) (out : List ℕ) : Type 0 where
   pub size : SameSize (t .board) (r .turned .node .board)
   pub few : r .turned .node .stats .grids ≤ l .grids
-  pub within : r .turned .node .guesses .head ≤ 1024
+  pub within : r .turned .node .guesses .head ≤ mostWaiting
   pub same : r .tries ≡ true → (r .turned .node .board ≡ t .board) × (r .turned .node .stats ≡ t .stats) × (out ≡ list) ×
       (r .cell .0 < t .board .w * t .board .h) × (r .colour .0 < 8) × (t .stats .grids < l .grids) × (t .stats .steps < l .budget)
   pub to : (g : Setting (t .board .w) (t .board .h) masks) (b : Rules.Board) (c x : ℕ) (gs : List Choosing.Guess) (p : Bool) (made : List Choosing.Guess) (s : Run) →
@@ -80,7 +81,7 @@ pub record Begins (t : Node) (masks list : List ℕ) (l : Given) (d : ℕ) (r : 
 pub record Ends (t : Node) (c x : ℕ) (isdead : Bool) (masks list : List ℕ) (l : Given) (s : Stats) (r : Turned) (out : List ℕ) : Type 0 where
   pub size : SameSize (t .board) (r .node .board)
   pub few : r .node .stats .grids ≤ l .grids
-  pub within : r .node .guesses .head ≤ 1024
+  pub within : r .node .guesses .head ≤ mostWaiting
   pub to : (g : Setting (t .board .w) (t .board .h) masks) (b : Rules.Board) (gs : List Choosing.Guess) (p : Bool) (made : List Choosing.Guess) (s₀ s₁ : Run) (e : End) →
       Stands g t list b gs p made s₀ → isdead ≡ isDead e → RunIs g s list s₁ → Fine g b → Few g gs → has (at b c) x ≡ true → (e ≡ dead → s .grids < l .grids) →
       TurnTo g r out (after (g .puzzle) b c x gs p made e s₁)
@@ -89,7 +90,7 @@ pub record Ends (t : Node) (c x : ℕ) (isdead : Bool) (masks list : List ℕ) (
 pub record Refills (t : Node) (masks list : List ℕ) (l : Given) (d : ℕ) (r : Turned) : Type 0 where
   pub size : SameSize (t .board) (r .node .board)
   pub few : r .node .stats .grids ≤ l .grids
-  pub within : r .node .guesses .head ≤ 1024
+  pub within : r .node .guesses .head ≤ mostWaiting
   pub to : (g : Setting (t .board .w) (t .board .h) masks) (u : Spent) → SpentIs g t list u → SpentFine g u → RefillTo g r list (refilled (g .puzzle) (limitsOf l) d u)
 
 -- ## The search, `left` being how much deeper it may go
@@ -133,14 +134,14 @@ pub record Searches (b : Board) (waiting : Guesses) (masks list : List ℕ) (l :
 pub record Passes (t : Node) (masks list : List ℕ) (l : Given) (left : ℕ) (r : Turned) (out : List ℕ) : Type 0 where
   pub size : SameSize (t .board) (r .node .board)
   pub few : r .node .stats .grids ≤ l .grids
-  pub within : r .node .guesses .head ≤ 1024
+  pub within : r .node .guesses .head ≤ mostWaiting
   pub to : (g : Setting (t .board .w) (t .board .h) masks) (n : Search.Node) → NodeIs g t list n → NodeFine g n →
       PassTo g r out (pass (g .puzzle) (limitsOf l) (tryAt (g .puzzle) l (left - 1)) (depthOf l left) n)
 
 pub record Turns (t : Node) (masks list : List ℕ) (l : Given) (left : ℕ) (r : Turned) (out : List ℕ) : Type 0 where
   pub size : SameSize (t .board) (r .node .board)
   pub few : r .node .stats .grids ≤ l .grids
-  pub within : r .node .guesses .head ≤ 1024
+  pub within : r .node .guesses .head ≤ mostWaiting
   pub to : (g : Setting (t .board .w) (t .board .h) masks) (n : Search.Node) → NodeIs g t list n → NodeFine g n →
       TurnTo g r out (passStep (g .puzzle) (limitsOf l) (tryAt (g .puzzle) l (left - 1)) (depthOf l left) n)
 

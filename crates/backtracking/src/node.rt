@@ -14,6 +14,7 @@ ghost use mathlib.Core.List.{List};
 ghost use Prim.Native.Nat.{ℕ, _*_, _^_, _≤_, _<_};
 ghost use Rattle.rules.specs.Sets.{has};
 ghost use Rattle.rules.specs.Boards.{at};
+ghost use Rattle.rules.specs.Answers.{mostWaiting};
 ghost use Rattle.boards.specs.Board.{boardOf, Sized};
 ghost use Rattle.runs.specs.Stats.{noted};
 ghost use Rattle.backtracking.specs.Setting.{Ready};
@@ -197,7 +198,7 @@ fn has_colour(b: Board, c: CellNo, x: Colour) -> bool
 
 // Limits are asked. A guess whose colour is gone is skipped. A cell with one colour left is never guessed: skipped if this node itself has already run probing, otherwise the node is probed.
 pub fn before_guess(t: Node, list: &mut [u8], masks: &[u32], l: Limits, depth: usize) -> Begun
-    requires { ⌜ Ready (t .board) (now masks) (now list) l (t .stats) × (t .guesses .head < 1024) ⌝ }
+    requires { ⌜ Ready (t .board) (now masks) (now list) l (t .stats) × (t .guesses .head < mostWaiting) ⌝ }
     ensures { λ r. ⌜ Begins t (now (masks .entry)) (now (list .entry)) l depth r (now (list .exit)) ⌝ }
 {
     let b = t.board;
@@ -241,7 +242,7 @@ pub fn after_guess(
     stats: Stats,
     l: Limits,
 ) -> Turned
-    requires { ⌜ Ready (t .board) (now masks) (now list) l stats × (t .guesses .head ≤ 1024) × (c .0 < t .board .w * t .board .h) × (x .0 < 8) × (stats .steps ≤ 2 ^ 40) ⌝ }
+    requires { ⌜ Ready (t .board) (now masks) (now list) l stats × (t .guesses .head ≤ mostWaiting) × (c .0 < t .board .w * t .board .h) × (x .0 < 8) × (stats .steps ≤ 2 ^ 40) ⌝ }
     ensures { λ r. ⌜ Ends t (c .0) (x .0) dead (now (masks .entry)) (now (list .entry)) l stats r (now (list .exit)) ⌝ }
 {
     let b = t.board;
@@ -275,7 +276,7 @@ pub fn after_guess(
 
 // M3: when guesses run out limits are asked; if the board is unsolved and no cell is closed, the first unsolved cell gives new guesses. Otherwise the node ends, not dead.
 pub fn refill(t: Node, l: Limits, depth: usize) -> Turned
-    requires { ⌜ Sized (t .board) × (t .stats .grids ≤ l .grids) × (t .guesses .head ≤ 1024) ⌝ }
+    requires { ⌜ Sized (t .board) × (t .stats .grids ≤ l .grids) × (t .guesses .head ≤ mostWaiting) ⌝ }
     ensures { λ r. ⌜ ((masks list : List ℕ) → Refills t masks list l depth r) ⌝ }
 {
     let b = t.board;

@@ -12,12 +12,14 @@ use cells::CellNo;
 use cells::Colour;
 use guesses::Guesses;
 use guesses::choose_directions;
+use rules::MOST_WAITING;
 use runs::Limits;
 use runs::Stats;
 use runs::limits_reached;
 ghost use mathlib.Core.Path.{_≡_};
 ghost use mathlib.Core.Bool.{false};
 ghost use Prim.Native.Nat.{_+_, _*_, _≤_, _<_};
+ghost use Rattle.rules.specs.Answers.{mostWaiting};
 ghost use Rattle.runs.specs.Stats.{noted};
 ghost use Rattle.backtracking.specs.Setting.{Ready};
 ghost use Rattle.backtracking.specs.Contracts.{NodeStands, SearchStands, GuessStands, Searches, Passes, Turns, Tries};
@@ -64,7 +66,7 @@ pub fn search(
     l: Limits,
     left: usize,
 ) -> Ended
-    requires { ⌜ Ready board (now masks) (now list) l stats × (waiting .head ≤ 1024) × (left ≤ l .depth + 1) × SearchStands board waiting (now masks) (now list) stats ⌝ }
+    requires { ⌜ Ready board (now masks) (now list) l stats × (waiting .head ≤ mostWaiting) × (left ≤ l .depth + 1) × SearchStands board waiting (now masks) (now list) stats ⌝ }
     ensures { λ r. ⌜ Searches board waiting (now (masks .entry)) (now (list .entry)) l left stats r (now (list .exit)) ⌝ }
 {
     let depth = l.depth + 1 - left;
@@ -100,11 +102,11 @@ pub fn search(
 
 // A pass over the guesses that wait; it is not over when they have run out.
 fn search_mutable(node: Node, list: &mut [u8], masks: &[u32], l: Limits, left: usize) -> Turned
-    requires { ⌜ Ready (node .board) (now masks) (now list) l (node .stats) × (node .guesses .head ≤ 1024) × (1 ≤ left) × (left ≤ l .depth + 1) × NodeStands node (now masks) (now list) ⌝ }
+    requires { ⌜ Ready (node .board) (now masks) (now list) l (node .stats) × (node .guesses .head ≤ mostWaiting) × (1 ≤ left) × (left ≤ l .depth + 1) × NodeStands node (now masks) (now list) ⌝ }
     ensures { λ r. ⌜ Passes node (now (masks .entry)) (now (list .entry)) l left r (now (list .exit)) ⌝ }
 {
     let mut t = node;
-    while t.guesses.head < 1024 {
+    while t.guesses.head < MOST_WAITING {
         let u = turn(t, &mut *list, masks, l, left);
         if u.over {
             return u;
@@ -116,7 +118,7 @@ fn search_mutable(node: Node, list: &mut [u8], masks: &[u32], l: Limits, left: u
 
 // The next guess: limits are asked before it, and the board is restored after it.
 fn turn(node: Node, list: &mut [u8], masks: &[u32], l: Limits, left: usize) -> Turned
-    requires { ⌜ Ready (node .board) (now masks) (now list) l (node .stats) × (node .guesses .head < 1024) × (1 ≤ left) × (left ≤ l .depth + 1) × NodeStands node (now masks) (now list) ⌝ }
+    requires { ⌜ Ready (node .board) (now masks) (now list) l (node .stats) × (node .guesses .head < mostWaiting) × (1 ≤ left) × (left ≤ l .depth + 1) × NodeStands node (now masks) (now list) ⌝ }
     ensures { λ r. ⌜ Turns node (now (masks .entry)) (now (list .entry)) l left r (now (list .exit)) ⌝ }
 {
     let depth = l.depth + 1 - left;

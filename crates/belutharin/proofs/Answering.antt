@@ -21,7 +21,7 @@ use Rattle.rules.proofs.Tests.{passed, clash}
 use Rattle.rules.proofs.Fitting as Fitting
 use Rattle.rules.proofs.Keeping.{ProbedSound, probe-sound}
 use Rattle.rules.proofs.Room as Room
-use Rattle.rules.proofs.Room.{waiting-1024, chosen-waiting}
+use Rattle.rules.proofs.Room.{waiting-few, chosen-waiting}
 use Rattle.rules.proofs.Promises.{run-promise, dead-stores-none}
 use Rattle.boards.specs.declared.board.Board.{Board}
 use Rattle.boards.specs.Board.{boardOf, Sized}
@@ -167,7 +167,7 @@ module _ (b : Board) (masks cells list : List ℕ) (l : Limits) (y : Given b mas
 
       module _ (waiting : Guesses) (chosen : IfRoom (choose (boardOf (p .board)) (notesOf (p .notes))) waiting) where
         wait : (z : Puzzle) → First z → Waiting (choose (boardOf (p .board)) (notesOf (p .notes))) waiting
-        wait z i = record { within = chosen .within; guesses = chosen .guesses (waiting-1024 mostColours (b .w * b .h) (choose (boardOf (p .board)) (notesOf (p .notes))) (omega arith) (few-cells b (y .sized)) (i .few)) }
+        wait z i = record { within = chosen .within; guesses = chosen .guesses (waiting-few mostColours (b .w * b .h) (choose (boardOf (p .board)) (notesOf (p .notes))) (omega arith) (few-cells b (y .sized)) (i .few)) }
 
         few-at : (z : Puzzle) → First z → Room.Waiting mostColours (p .board .w * p .board .h) (choose (boardOf (p .board)) (notesOf (p .notes)))
         few-at z i = subst (λ n. Room.Waiting mostColours n (choose (boardOf (p .board)) (notesOf (p .notes)))) (sym (size-cells (w .size))) (i .few)

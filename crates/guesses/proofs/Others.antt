@@ -12,6 +12,7 @@ use Rattle.rules.specs.Sets.{Colour, has, members, colours}
 use Rattle.rules.specs.Boards.{Cell}
 use Rattle.rules.specs.Guesses.{Guess, guess}
 use Rattle.rules.specs.Search.{among, others}
+use Rattle.rules.specs.Answers.{mostWaiting}
 use Rattle.rules.proofs.Tests.{on-test}
 use Rattle.rules.proofs.Lists.{from-more, from-end}
 use Rattle.guesses.specs.declared.waiting.Guesses.{Guesses}
@@ -24,19 +25,19 @@ module _ (g : Guesses) (c : Cell) (x : Colour) (s : ℕ) (y : Colour) where
   Other r = IfRoom (withOther c x s y (guessesOf g)) r
 
   -- what waits already has room
-  kept : g .head ≤ 1024 → withOther c x s y (guessesOf g) ≡ guessesOf g → Other g
+  kept : g .head ≤ mostWaiting → withOther c x s y (guessesOf g) ≡ guessesOf g → Other g
   kept h e = record { within = h; guesses = λ _. sym e }
 
-  pub other-gone : g .head ≤ 1024 → has s y ≡ false → Other g
+  pub other-gone : g .head ≤ mostWaiting → has s y ≡ false → Other g
   unfolding withOther
   other-gone h e = kept h (rw (e, withOther))
 
   module _ (e : has s y ≡ true) where
-    pub other-same : g .head ≤ 1024 → y ≡ x → Other g
+    pub other-same : g .head ≤ mostWaiting → y ≡ x → Other g
     unfolding withOther
     other-same h k = kept h (rw (e, eq-eqb y x k, withOther))
 
-    pub other-waits : g .head ≤ 1024 → (y ≡ x → ⊥) → among (guess c y) (guessesOf g) ≡ true → Other g
+    pub other-waits : g .head ≤ mostWaiting → (y ≡ x → ⊥) → among (guess c y) (guessesOf g) ≡ true → Other g
     unfolding withOther
     other-waits h k w = kept h (rw (e, ne-eqb y x k, w, withOther))
 
@@ -74,11 +75,11 @@ module _ (c : Cell) (x : Colour) (s : ℕ) where
 
   -- what is still to be added to g makes the others of gs, where there is room for these
   pub record Adding (gs : List Guess) (g : Guesses) (y : ℕ) : Type 0 where
-    pub within : g .head ≤ 1024
+    pub within : g .head ≤ mostWaiting
     pub upto : y ≤ 8
-    pub all : length (others c x (colours s) gs) ≤ 1024 → othersFrom y (guessesOf g) ≡ others c x (colours s) gs
+    pub all : length (others c x (colours s) gs) ≤ mostWaiting → othersFrom y (guessesOf g) ≡ others c x (colours s) gs
 
-  pub adding-start : (g : Guesses) → g .head ≤ 1024 → Adding (guessesOf g) g 0
+  pub adding-start : (g : Guesses) → g .head ≤ mostWaiting → Adding (guessesOf g) g 0
   unfolding members
   adding-start g h = record { within = h; upto = omega arith; all = λ _. refl }
 

@@ -6,17 +6,18 @@ use Prim.Native.Nat.{_≤_}
 use native.Mathlib.Omega.{arith}
 use lib.ListN.{length}
 use Rattle.rules.specs.Guesses.{Guess}
+use Rattle.rules.specs.Answers.{mostWaiting}
 use Rattle.guesses.specs.declared.waiting.Guesses.{Guesses}
 use Rattle.guesses.specs.Waiting.{guessesOf, Waiting, IfRoom, withIf}
 
 pub waiting-room : {gs : List Guess} {g : Guesses} → Waiting gs g → IfRoom gs g
 waiting-room w = record { within = w .within; guesses = λ _. w .guesses }
 
-pub room-waiting : {gs : List Guess} {g : Guesses} → length gs ≤ 1024 → IfRoom gs g → Waiting gs g
+pub room-waiting : {gs : List Guess} {g : Guesses} → length gs ≤ mostWaiting → IfRoom gs g → Waiting gs g
 room-waiting h w = record { within = w .within; guesses = w .guesses h }
 
 -- what waits already has room
-pub room-kept : (g : Guesses) → g .head ≤ 1024 → IfRoom (guessesOf g) g
+pub room-kept : (g : Guesses) → g .head ≤ mostWaiting → IfRoom (guessesOf g) g
 room-kept g h = record { within = h; guesses = λ _. refl }
 
 -- guesses put before what waits are put before what should wait

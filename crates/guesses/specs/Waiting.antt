@@ -10,6 +10,7 @@ use Rattle.rules.specs.Sets.{Colour, has}
 use Rattle.rules.specs.Boards.{Cell}
 use Rattle.rules.specs.Guesses as Rules
 use Rattle.rules.specs.Search.{among}
+use Rattle.rules.specs.Answers.{mostWaiting}
 use Rattle.guesses.specs.declared.waiting.Guess.{Guess}
 use Rattle.guesses.specs.declared.waiting.Guesses.{Guesses}
 
@@ -26,21 +27,21 @@ next g = guessAt g (g .head)
 
 -- those from the head on
 unfoldable pub guessesOf : Guesses → List Rules.Guess
-guessesOf g = map (guessAt g) (from (g .head) (1024 - g .head))
+guessesOf g = map (guessAt g) (from (g .head) (mostWaiting - g .head))
 
 -- the guesses gs wait in g
 pub record Waiting (gs : List Rules.Guess) (g : Guesses) : Type 0 where
-  pub within : g .head ≤ 1024
+  pub within : g .head ≤ mostWaiting
   pub guesses : guessesOf g ≡ gs
 
 -- and so they do if there is room for them
 pub record IfRoom (gs : List Rules.Guess) (g : Guesses) : Type 0 where
-  pub within : g .head ≤ 1024
-  pub guesses : length gs ≤ 1024 → guessesOf g ≡ gs
+  pub within : g .head ≤ mostWaiting
+  pub guesses : length gs ≤ mostWaiting → guessesOf g ≡ gs
 
 -- r is g without the next guess
 pub record Rest (g r : Guesses) : Type 0 where
-  pub within : r .head ≤ 1024
+  pub within : r .head ≤ mostWaiting
   pub guesses : guessesOf g ≡ next g ∷ guessesOf r
 
 -- a guess comes to wait before the others if it is wanted

@@ -5,6 +5,7 @@ ghost use Prim.Native.Nat.{_≤_, _*_};
 ghost use Rattle.rules.specs.Floats.{higher};
 ghost use Rattle.rules.specs.Queues.{inOrder};
 ghost use Rattle.rules.specs.Guesses.{guess, cellOrder, colourOrder, choose};
+ghost use Rattle.rules.specs.Answers.{mostWaiting};
 ghost use Rattle.queues.specs.Entries.{queueOf};
 ghost use Rattle.boards.specs.Board.{boardOf, Sized};
 ghost use Rattle.notes.specs.Round.{notesOf};
@@ -56,7 +57,7 @@ fn ranked(b: Board, notes: Notes) -> Cells
 
 // A cell's colours, the one that solves most first, come to wait before the guesses that wait, where there is room.
 fn with_cell(g: Guesses, notes: Notes, c: CellNo) -> Guesses
-    requires { ⌜ (g .head ≤ 1024) × (notes .n ≤ 256) ⌝ }
+    requires { ⌜ (g .head ≤ mostWaiting) × (notes .n ≤ 256) ⌝ }
     ensures { λ r. ⌜ IfRoom (map (guess (c .0)) (colourOrder (notesOf notes) (c .0)) ++ guessesOf g) r ⌝ }
 {
     let order = notes::colour_order(notes, c);

@@ -5,12 +5,11 @@ ghost use Prim.Native.Nat.{_≤_, _<_};
 ghost use Rattle.rules.specs.Sets.{colours};
 ghost use Rattle.rules.specs.Guesses.{guess};
 ghost use Rattle.rules.specs.Search.{sameGuess, among, others};
+ghost use Rattle.rules.specs.Answers.{mostWaiting};
 ghost use Rattle.guesses.specs.Waiting.{guessOf, next, guessesOf, Waiting, IfRoom, Rest, withIf, withOther};
 use cells::CellNo;
 use cells::Colour;
-
-// At most this many guesses wait at a node: four colours in each of 256 cells.
-const MOST_WAITING: usize = 1024;
+use rules::MOST_WAITING;
 
 // A cell and a colour for it.
 pub struct Guess {
@@ -21,8 +20,8 @@ pub struct Guess {
 // Guesses that wait: those from place `head` on, the next one first.
 pub struct Guesses {
     pub head: usize,
-    pub cells: [u16; 1024],
-    pub colours: [u8; 1024],
+    pub cells: [u16; MOST_WAITING],
+    pub colours: [u8; MOST_WAITING],
 }
 
 // Whether two guesses are the same.
@@ -37,8 +36,8 @@ impl Guesses {
     pub fn none() -> Guesses
         ensures { λ r. ⌜ Waiting [] r ⌝ }
     {
-        let cells = [0; 1024];
-        let colours = [0; 1024];
+        let cells = [0; MOST_WAITING];
+        let colours = [0; MOST_WAITING];
         Guesses {
             head: MOST_WAITING,
             cells,
@@ -48,7 +47,7 @@ impl Guesses {
 
     // The next guess.
     pub fn first(self) -> Guess
-        requires { ⌜ self .head < 1024 ⌝ }
+        requires { ⌜ self .head < mostWaiting ⌝ }
         ensures { λ r. ⌜ guessOf r ≡ next self ⌝ }
     {
         let i = self.head;
@@ -60,7 +59,7 @@ impl Guesses {
 
     // The guesses after the next one.
     pub fn rest(self) -> Guesses
-        requires { ⌜ self .head < 1024 ⌝ }
+        requires { ⌜ self .head < mostWaiting ⌝ }
         ensures { λ r. ⌜ Rest self r ⌝ }
     {
         let mut g = self;
@@ -70,7 +69,7 @@ impl Guesses {
 
     // A guess comes to wait before the others. Where there is no room it does not, which never happens in a search.
     pub fn push(self, c: CellNo, x: Colour) -> Guesses
-        requires { ⌜ self .head ≤ 1024 ⌝ }
+        requires { ⌜ self .head ≤ mostWaiting ⌝ }
         ensures { λ r. ⌜ IfRoom (guess (c .0) (x .0) ∷ guessesOf self) r ⌝ }
     {
         let mut g = self;
@@ -85,7 +84,7 @@ impl Guesses {
 
     // A guess comes to wait if it is wanted.
     pub fn push_if(self, wanted: bool, c: CellNo, x: Colour) -> Guesses
-        requires { ⌜ self .head ≤ 1024 ⌝ }
+        requires { ⌜ self .head ≤ mostWaiting ⌝ }
         ensures { λ r. ⌜ IfRoom (withIf wanted (guess (c .0) (x .0)) (guessesOf self)) r ⌝ }
     {
         if wanted { self.push(c, x) } else { self }
@@ -112,7 +111,7 @@ impl Guesses {
 
     // One colour of a set comes to wait, unless it is the colour x or waits already.
     fn other(self, c: CellNo, x: Colour, set: u8, y: Colour) -> Guesses
-        requires { ⌜ (self .head ≤ 1024) × (y .0 < 8) ⌝ }
+        requires { ⌜ (self .head ≤ mostWaiting) × (y .0 < 8) ⌝ }
         ensures { λ r. ⌜ IfRoom (withOther (c .0) (x .0) set (y .0) (guessesOf self)) r ⌝ }
     {
         if !cells::has(set, y) {
@@ -129,7 +128,7 @@ impl Guesses {
 
     // The cell's other colours not already waiting, ascending, each before the guesses that wait: so the highest goes first.
     pub fn others(self, c: CellNo, x: Colour, set: u8) -> Guesses
-        requires { ⌜ self .head ≤ 1024 ⌝ }
+        requires { ⌜ self .head ≤ mostWaiting ⌝ }
         ensures { λ r. ⌜ IfRoom (others (c .0) (x .0) (colours set) (guessesOf self)) r ⌝ }
     {
         let mut g = self;

@@ -21,6 +21,7 @@ use Rattle.rules.specs.Probing.{Run, CellQueue, Notes, probed, probe}
 use Rattle.rules.specs.Guesses.{Guess, guess, notesAt, rateAt, cellOrder, tally, colourOrder, choose}
 use Rattle.rules.specs.Search.{among, others, firstUnsolved}
 use Rattle.rules.specs.Promises.{Distinct}
+use Rattle.rules.specs.Answers.{mostColours, mostWaiting}
 use Rattle.rules.proofs.Tests.{on-test, on-option, by-equal, clash, or-false}
 use Rattle.rules.proofs.Lists.{In, first-some, map-in, joined-in, getD-replicate-same, length-from, from-low}
 use Rattle.rules.proofs.Distinct.{append-distinct, map-distinct, distinct-few}
@@ -61,8 +62,8 @@ module _ (k n : ℕ) where
       (λ p m. let r = map-in (place k) gs m in subst (λ q. q < n * suc k) (sym (r .2)) (place-low gs w (r .0) (r .1))) in
       omega (arith, length-map gs (place k))
 
-  pub waiting-1024 : (gs : List Guess) → k ≤ 3 → n ≤ 256 → Waiting k n gs → length gs ≤ 1024
-  waiting-1024 gs h l w = let few = waiting-room gs w in let m : n * (k + 1) ≤ 256 * 4 = mul-le-mul {m₁ = k + 1} {m₂ = 4} l (omega arith) in omega arith
+  pub waiting-few : (gs : List Guess) → k ≤ mostColours → n ≤ 256 → Waiting k n gs → length gs ≤ mostWaiting
+  waiting-few gs h l w = let few = waiting-room gs w in let m : n * (k + 1) ≤ 256 * (mostColours + 1) = mul-le-mul {m₁ = k + 1} {m₂ = mostColours + 1} l (omega arith) in omega arith
 
   -- ## What keeps it so
 

@@ -25,6 +25,10 @@ side n = within 1 16 n
 abbrev pub mostColours : ℕ
 mostColours = 3
 
+-- at most so many guesses wait at a node, 1,024: each colour and blank in each of 256 cells
+abbrev pub mostWaiting : ℕ
+mostWaiting = 256 * (mostColours + 1)
+
 abbrev pub colourCount : ℕ → Bool
 colourCount k = within 1 mostColours k
 

@@ -4,6 +4,9 @@ pub const LARGEST_SIDE: usize = 16;
 
 pub const MOST_COLOURS: usize = 3;
 
+// At most 1,024 guesses wait at a node: four colours in each of 256 cells.
+pub const MOST_WAITING: usize = LARGEST_SIDE * LARGEST_SIDE * (MOST_COLOURS + 1);
+
 pub const MOST_GRIDS: usize = 128;
 
 pub const MOST_DEPTH: usize = 15;

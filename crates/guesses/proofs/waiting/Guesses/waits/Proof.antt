@@ -5,6 +5,7 @@ use native.Mathlib.Omega.{arith}
 use Rattle.rules.specs.Lists.{any, from}
 use Rattle.rules.specs.Guesses.{guess}
 use Rattle.rules.specs.Search.{among}
+use Rattle.rules.specs.Answers.{mostWaiting}
 use Rattle.rules.proofs.Lists.{any-now, any-more, any-end}
 use Rattle.guesses.specs.Waiting.{guessOf, guessesOf}
 use Rattle.guesses.proofs.Arrays.{isAt, among-places}
@@ -12,10 +13,10 @@ use Rattle.guesses.proofs.waiting.Guesses.waits.Statement.{statement}
 use Rattle.guesses.proofs.waiting.Guesses.waits.Tie as tie
 
 abbrev Inv-loop : tie.InvT-loop
-Inv-loop self g i₀ i = any (isAt self (guessOf g)) (from i (1024 - i)) ≡ among (guessOf g) (guessesOf self)
+Inv-loop self g i₀ i = any (isAt self (guessOf g)) (from i (mostWaiting - i)) ≡ among (guessOf g) (guessesOf self)
 
 abbrev μ-loop : tie.MeasureT-loop
-μ-loop self g i₀ i = 1024 - i
+μ-loop self g i₀ i = mostWaiting - i
 
 loop-holds : tie.Need-loop-holds Inv-loop μ-loop
 loop-holds c = among-places (c .args .t1) _
@@ -37,7 +38,7 @@ returns c =
     let h = c .before .before .before .before in
     let l = h .before .loop in
     let a = h .before .before .args in
-    sym (any-now (isAt (a .t1) (guess (a .c .0) (a .x .0))) (l .i) 1024 (h .loop-test .taken) (sym (c .before .same-guess .ensures) ∙ c .if1 .taken)) ∙ l .inv
+    sym (any-now (isAt (a .t1) (guess (a .c .0) (a .x .0))) (l .i) mostWaiting (h .loop-test .taken) (sym (c .before .same-guess .ensures) ∙ c .if1 .taken)) ∙ l .inv
 
 add-i : tie.Need-add-i Inv-loop μ-loop
 add-i c = omega arith
@@ -50,13 +51,13 @@ loop-again c =
     let h = c .before .before .before .before in
     let l = h .before .loop in
     let a = h .before .before .args in
-    sym (any-more (isAt (a .t1) (guess (a .c .0) (a .x .0))) (l .i) 1024 (h .loop-test .taken) (sym (c .before .same-guess .ensures) ∙ c .if1 .left)) ∙ l .inv
+    sym (any-more (isAt (a .t1) (guess (a .c .0) (a .x .0))) (l .i) mostWaiting (h .loop-test .taken) (sym (c .before .same-guess .ensures) ∙ c .if1 .left)) ∙ l .inv
 
 returns-2 : tie.Need-returns-2 Inv-loop μ-loop
 returns-2 c =
     let l = c .before .loop in
     let a = c .before .before .args in
-    sym (any-end (isAt (a .t1) (guess (a .c .0) (a .x .0))) (l .i) 1024 (c .loop-test .left)) ∙ l .inv
+    sym (any-end (isAt (a .t1) (guess (a .c .0) (a .x .0))) (l .i) mostWaiting (c .loop-test .left)) ∙ l .inv
 
 pub waits-spec : {M : Type 1} → statement M
 waits-spec =
