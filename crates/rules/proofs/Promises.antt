@@ -1,6 +1,6 @@
 -- What the answers promise holds of the rules, and so of `solve`, for every accepted input: dead ends, solved boards, lists and their counts mean what they say.
 use mathlib.Core.Path.{_≡_, refl, sym, ap, ap₂, subst, _∙_}
-use mathlib.Core.Logic.{inl, inr}
+use mathlib.Core.Logic.{_⊎_, inl, inr}
 use mathlib.Core.Bool.{true}
 use mathlib.Core.List.{List, [], _∷_, _++_, append-assoc, List·Memᴰ·head, List·Memᴰ·tail, List·Memᴰ·not-nil}
 use Prim.Native.Nat.{ℕ, suc, _+_, _*_, _≤_}
@@ -17,7 +17,7 @@ use Rattle.rules.specs.Guesses.{choose}
 use Rattle.rules.specs.Search.{Limits, End, dead, notDead, Left, left, Outcome, solvedAs, listed, deadEnd, fresh, answered, search, checked, begun, wholeRun}
 use Rattle.rules.specs.Answers.{mostColours, Asked, written, answerOf, searched, solve}
 use Rattle.rules.specs.Promises.{Fits, Distinct, mostProbing, Promise, ofOutcome, parts, ofAnswer, Accepted, puzzleOf, limitsOf, Promised}
-use Rattle.rules.proofs.Tests.{on-test}
+use Rattle.rules.proofs.Tests.{on-test, passed}
 use Rattle.rules.proofs.Lists.{In, in-some}
 use Rattle.rules.proofs.Narrowing.{⊑-trans}
 use Rattle.rules.proofs.Accepting.{accepted-searched, accepted-sized, accepted-proper, accepted-colours, accepted-few, solve-cases}
@@ -166,6 +166,18 @@ module _ (a : Asked) (clues : List Clue) (y : Accepted a clues) where
       let m : (a .mostDepth + 2) * mostProbing (a .k) (length (a .cells)) ≤ (a .mostDepth + 2) * mostProbing mostColours 256 =
       mul-le-mul-left (a .mostDepth + 2) (mostProbing-few (a .k) mostColours (length (a .cells)) 256 (accepted-colours a clues y) (accepted-few a clues y)) in
       omega arith
+
+  -- A GRID THAT IS HANDED OVER AS THE BOARD IS JUDGED, whatever the limits: 1 where it fits, and 3 where it does not
+  abbrev Judged : ℕ → Type 0
+  Judged n = ((n ≡ 1) × Fits z (a .cells) (a .cells)) ⊎ ((n ≡ 3) × (Fits z (a .cells) (a .cells) → ⊥))
+
+  pub judged : solved (a .cells) ≡ true → Judged (solve a .number)
+  unfolding wholeRun
+  judged e = subst (λ r. Judged (r .number)) (sym (accepted-searched a clues y ∙ ap (answerOf a) (passed (begun z (limitsOf a) (probe z (a .cells) (startQueue z (a .cells)) fresh)) e)))
+      (on-test (λ o. Judged (answerOf a o .number)) (check z (a .cells)) (λ h. inl (refl, check-fits z (a .k) few given e h)) (λ h. inr (refl, λ f. unchecked-none z (a .k) few given e h f)))
+    where
+      few : a .k ≤ 7
+      few = let h = accepted-colours a clues y in omega arith
 
 -- `solve` KEEPS THE PROMISE
 pub solve-promised : (a : Asked) → Promised a (solve a)
