@@ -23,7 +23,7 @@ oracle:
 mends:
 	@tools/mends
 
-# And the code is proved against the rules, both without the mend. It is no part of the gate, since it takes eleven minutes.
+# And the search is proved to be that of the rules, both without the mend. It is no part of the gate, since it takes more than ten minutes.
 alike:
 	@tools/mends alike
 
