@@ -1,6 +1,6 @@
 /* Belutharin for C: a nonogram search in which every function is proved to meet its contract.
  *
- * The library is libbelutharin.a; it needs nothing but memcpy and memset. The rules and all numbers are document 01's.
+ * The library is libbelutharin.a; it needs nothing but memcpy and memset. The rules and all numbers: docs/RULES.md.
  *
  * Who owns what: all memory is the caller's. A function reads and writes it during the call alone, keeps no pointer,
  * allocates nothing and has no state of its own, so that any thread may call any function at any time. The search takes up to

@@ -1,4 +1,4 @@
-//! Inputs that document 01 refuses, made from accepted ones: a way to break each thing that is tested.
+//! Inputs that the rules refuse, made from accepted ones: a way to break each thing that is tested.
 
 use crate::{generate::Random, puzzle::Puzzle};
 

@@ -1,7 +1,7 @@
 //! The published search of nonogrid over a plain stand-in for the parts that it calls, as the judge of Belutharin.
 //!
-//! `unmended::solve` runs the files as published, `mended::solve` with document 01's four mends: both take bytes and give
-//! document 01's numbers. `raw` holds what needs no search, `generate` makes puzzles from a seed, and
+//! `unmended::solve` runs the files as published, `mended::solve` with the four mends of docs/RULES.md: both take bytes and give
+//! its numbers. `raw` holds what needs no search, `generate` makes puzzles from a seed, and
 //! `damage` breaks them.
 
 // Both builds are read out by one file.
@@ -32,7 +32,7 @@ pub mod unmended {
     pub use crate::solver::unmended::reading::solve;
 }
 
-/// The search with document 01's four mends.
+/// The search with the four mends.
 pub mod mended {
     pub use crate::solver::mended::reading::solve;
 }

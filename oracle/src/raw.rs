@@ -1,4 +1,4 @@
-//! Document 01's numbers over bytes: what is refused, reducing one line, the rate, and handing out a grid.
+//! The numbers of docs/RULES.md over bytes: what is refused, reducing one line, the rate, and handing out a grid.
 
 use crate::{
     block::{Cell, ColouredBlock},

@@ -1,6 +1,6 @@
 //! Small replacements for the crates that the published files use.
 
-/// Maps and sets in ascending order: where the original leaves a tie to chance, document 01 asks for ascending colours.
+/// Maps and sets in ascending order: where the original leaves a tie to chance, the rules ask for ascending colours.
 pub mod hashbrown {
     pub use alloc::collections::{BTreeMap as HashMap, BTreeSet as HashSet};
 

@@ -1,4 +1,4 @@
-//! Small inputs on which the published search differs from document 01, for each mend.
+//! Small inputs on which the published search differs from the rules, for each mend.
 
 use oracle::{
     generate::{any_kind, clues_of_grid, sparse, Random},

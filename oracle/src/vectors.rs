@@ -34,7 +34,7 @@ impl Row {
         self.numbers.extend(bytes.iter().copied().map(u64::from));
     }
 
-    /// Document 01's number, 0 where it gives none.
+    /// The number given back, 0 where there is none.
     fn answer(&mut self, number: u8) {
         self.number(number.into());
         self.answer = number;

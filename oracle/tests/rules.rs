@@ -1,4 +1,4 @@
-//! The mended search against document 01's rules written out on their own, in its order and with no word of the original.
+//! The mended search against the rules written out on their own, in the order of docs/RULES.md and with no word of the original.
 
 use oracle::{
     generate::{any_limits, Random},

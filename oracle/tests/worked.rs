@@ -1,4 +1,4 @@
-//! The grids that document 01 works by hand, under its own numbers, run by the mended search.
+//! The worked grids of docs/RULES.md, under its numbers, run by the mended search.
 
 use oracle::{
     mended,

@@ -79,7 +79,8 @@ impl Listed {
         self.search.limit.is_none()
     }
 
-    /// What is known of each cell before the first guess, row by row, as sets of colours.
+    /// What is known of each cell in the end, row by row, as sets of colours: every grid of the puzzle has one of them there.
+    /// It is what the clues tell without a guess, and what dead guesses at depth 0 have taught.
     pub fn known(&self) -> &[u8] {
         &self.cells
     }
@@ -95,7 +96,7 @@ impl Listed {
 pub struct Search {
     /// Colours assumed, and guesses.
     pub steps: u64,
-    /// The deepest depth, counted from 1; 0 if there was no need to guess.
+    /// The deepest depth, counted from 1; 0 if no node was entered: there was no need to search, or a limit was met at once.
     pub deepest: usize,
     /// The limit met first.
     pub limit: Option<Limit>,

@@ -17,7 +17,7 @@
 //! ```
 //!
 //! [`solve`] takes a [`Puzzle`] and [`Limits`] and gives an [`Answer`], or a [`Refusal`] that says what is wrong with them. [`reduce_line`] and
-//! [`rate`] are the search's parts that are of use by themselves. [`raw`] has the same on bytes and numbers, as document 01 gives them.
+//! [`rate`] are the search's parts that are of use by themselves. [`raw`] has the same on bytes and numbers, as the rules give them.
 
 #![warn(missing_docs)]
 

@@ -1,4 +1,4 @@
-//! Document 01 number for number, on bytes: the library's functions with nothing added.
+//! The rules number for number, on bytes: the library's functions with nothing added.
 //!
 //! A cell is a set of colours, bit 0 for blank and bit c for colour c. Cells stand row by row. The clues are those of the rows from the top,
 //! then those of the columns from the left; each is one count, then for each block its colour and its length.
@@ -28,7 +28,7 @@ pub struct Answer {
     pub grids: usize,
     /// The steps taken: colours assumed in probing, and guesses.
     pub steps: u64,
-    /// The deepest depth, counted from 1; 0 if the search was not begun.
+    /// The deepest depth, counted from 1; 0 if no node was entered: the search was not begun, or a limit was met at once.
     pub deepest: usize,
     /// The limit met first: 0 none, 1 grids, 2 steps, 3 depth.
     pub limit: u8,
@@ -81,7 +81,7 @@ mod library {
 
 /// Searches for the grids of a puzzle.
 ///
-/// After 1 the board is the grid. After 2 it has what is known at the start of the search, and the list begins with the stored grids.
+/// After 1 the board is the grid. After 2 it has what was deduced at depth 0, before the first guess and from dead guesses there, and the list begins with the stored grids.
 /// All other bytes are untouched, and so are all bytes after any other number.
 ///
 /// ```

@@ -69,7 +69,7 @@ pub enum CellFault {
 }
 
 impl Refusal {
-    /// Document 01's number.
+    /// The number by which it was refused.
     pub fn number(&self) -> u8 {
         match self {
             Self::Size { .. } => 11,

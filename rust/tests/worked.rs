@@ -1,4 +1,4 @@
-//! The grids that document 01 works by hand.
+//! The worked grids of docs/RULES.md.
 
 use belutharin::raw::{self, Answer};
 

@@ -1,2 +1,3 @@
--- Laws of the place of a grid.
+-- Laws of the place of a grid, and that each function for C has one answer.
 pub mod Placing
+pub mod OneAnswer

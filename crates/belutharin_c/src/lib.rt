@@ -3,7 +3,7 @@ use rules::ACCEPTED;
 ghost use mathlib.Core.Path.{_≡_};
 ghost use Prim.Native.Nat.{_*_};
 ghost use Rattle.rules.specs.Answers.{solve, line, reduceLine, gridOf};
-ghost use Rattle.rules.specs.Promises.{Promised};
+ghost use Rattle.rules.specs.Promises.{Promised, LinePromised};
 ghost use Rattle.rates.specs.Answered.{Answered};
 ghost use Rattle.belutharin.specs.Answers.{asked};
 ghost use Rattle.belutharin_c.specs.Handing.{partAt, startOf, sizeOf};
@@ -43,6 +43,7 @@ pub extern "C" fn belutharin_solve(
 #[no_mangle]
 pub extern "C" fn belutharin_reduce_line(k: usize, clue: &[u8], cells: &mut [u8]) -> u8
     ensures { λ r. ⌜ line r (now (cells .exit)) ≡ reduceLine k (now (clue .entry)) (now (cells .entry)) ⌝ }
+    ensures promised { λ r. ⌜ LinePromised k (now (clue .entry)) (now (cells .entry)) (line r (now (cells .exit))) ⌝ }
 {
     lines::reduce_line(k, clue, cells)
 }

@@ -1,18 +1,23 @@
 -- The final check, line by line.
-use mathlib.Core.Path.{_≡_, sym, ap, _∙_}
+use mathlib.Core.Path.{_≡_, refl, sym, ap, _∙_}
 use mathlib.Core.Bool.{Bool, true, false}
-use mathlib.Core.List.{List}
+use mathlib.Core.List.{List, map}
 use Prim.Native.Nat.{ℕ, _+_, _-_, _*_, _≤_, _<_}
 use native.Mathlib.Omega.{arith}
-use lib.ListN.{take}
+use lib.ListN.{length, take}
 use Rattle.rules.specs.Lists.{from}
+use Rattle.rules.specs.Sets.{only}
 use Rattle.rules.specs.Lines.{fits}
 use Rattle.rules.specs.Boards.{Puzzle, lineCount, lineOf, clueAt}
 use Rattle.rules.specs.Propagation.{check}
 use Rattle.rules.proofs.Tests.{by-test, by-equal, clash}
 use Rattle.rules.proofs.Lists.{In, every-in, every-out, from-low, below}
+use Rattle.rules.proofs.Fitting.{check-meets}
+use Rattle.boards.specs.declared.board.Board.{Board}
+use Rattle.boards.specs.Board.{boardOf, Sized}
 use Rattle.boards.specs.Table.{Table}
-use Rattle.boards.proofs.Sizes.{at-size}
+use Rattle.boards.specs.Propagation.{Passes}
+use Rattle.boards.proofs.Sizes.{board-length, at-size}
 
 -- some line is arranged in the sets of line j
 abbrev pub lineFits : Puzzle → ℕ → ℕ → List ℕ → ℕ → Bool
@@ -46,3 +51,14 @@ module _ (masks : List ℕ) (w h : ℕ) (cells : List ℕ) (i : ℕ) (so-far : C
   unfolding check
   checked-end l z t = sym (every-in (lineFits z w h cells) (from 0 (lineCount z))
       (λ j m. let k = from-low 0 (lineCount z) m in so-far .passed z t j (omega arith) (at-size t (λ w h. j < h + w) (omega arith))))
+
+-- what the final check means: every line meets its clue
+pub check-passes : (b : Board) (masks : List ℕ) (r : Bool) → Sized b → length (b .cells) ≡ 256 → ((z : Puzzle) → Table z (b .w) (b .h) masks → r ≡ check z (boardOf b)) → Passes b masks r
+check-passes b masks r s n f = record {
+  is = f;
+  meant = λ z t colours e.
+      let size : length (map only colours) ≡ z .width * z .height = ap length (sym e) ∙ board-length b s n ∙ at-size t (λ w h. w * h ≡ z .width * z .height) refl in
+      let m = check-meets z colours size in
+      let same : r ≡ check z (map only colours) = f z t ∙ ap (check z) e in
+      (λ p. m .0 (sym same ∙ p), λ p. same ∙ m .1 p);
+}

@@ -1,15 +1,17 @@
 -- What propagating and checking on a board by value come to, and the steps between: a line reduced on the board's cells, and the set of the lines that are pending.
 use mathlib.Core.Path.{_≡_}
-use mathlib.Core.Bool.{true, false, _||_}
-use mathlib.Core.List.{List}
+use mathlib.Core.Logic.{_↔_}
+use mathlib.Core.Bool.{Bool, true, false, _||_}
+use mathlib.Core.List.{List, map}
 use mathlib.Core.Option.{Option, none, some}
 use Prim.Native.Nat.{ℕ, _+_, _*_, _/_, _%_, _^_, _≤_, _<_}
 use lib.Dec.{eqb, ltb}
 use lib.ListN.{length, getD, take}
-use Rattle.rules.specs.Sets.{setOf, lost}
+use Rattle.rules.specs.Sets.{Colour, setOf, lost, only}
 use Rattle.rules.specs.Lines.{reduce}
 use Rattle.rules.specs.Boards.{Puzzle, lineCells, lineOf, clueAt}
-use Rattle.rules.specs.Propagation.{write, propagate}
+use Rattle.rules.specs.Propagation.{write, propagate, check}
+use Rattle.rules.specs.Promises.{AllMeet}
 use Rattle.boards.specs.declared.board.Board.{Board}
 use Rattle.boards.specs.declared.propagation.Narrowed.{Narrowed}
 use Rattle.boards.specs.declared.propagation.Propagated.{Propagated}
@@ -64,3 +66,10 @@ pub record Propagates (b : Board) (c : ℕ) (masks : List ℕ) (r : Propagated) 
   pub size : SameSize b (r .board)
   pub kept : r .ok ≡ false → r .board ≡ b
   pub to : (z : Puzzle) → Table z (b .w) (b .h) masks → PropagatedTo r (propagate z (boardOf b) c)
+
+-- ## The final check
+
+-- the final check of the board b, whatever puzzle the table is of; where each cell has one colour, it is passed exactly if every line meets its clue
+pub record Passes (b : Board) (masks : List ℕ) (r : Bool) : Type 0 where
+  pub is : (z : Puzzle) → Table z (b .w) (b .h) masks → r ≡ check z (boardOf b)
+  pub meant : (z : Puzzle) → Table z (b .w) (b .h) masks → (colours : List Colour) → boardOf b ≡ map only colours → (r ≡ true) ↔ AllMeet z colours

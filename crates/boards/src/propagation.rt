@@ -11,10 +11,9 @@ ghost use Prim.Native.Nat.{_*_, _≤_, _<_};
 ghost use lib.ListN.{take};
 ghost use Rattle.rules.specs.Lines.{fits};
 ghost use Rattle.rules.specs.Boards.{Puzzle, lineOf, clueAt};
-ghost use Rattle.rules.specs.Propagation.{check};
-ghost use Rattle.boards.specs.Board.{boardOf, Sized};
+ghost use Rattle.boards.specs.Board.{Sized};
 ghost use Rattle.boards.specs.Table.{Table, Playable};
-ghost use Rattle.boards.specs.Propagation.{LineOn, Narrows, cellLines, crossed, Propagates};
+ghost use Rattle.boards.specs.Propagation.{LineOn, Narrows, cellLines, crossed, Propagates, Passes};
 
 // Whether a line was reduced, and bit j for each of its cells j that lost a colour.
 struct Narrowed {
@@ -109,7 +108,7 @@ impl Board {
     // The final check: all rows and columns of a solved board meet their clues.
     pub fn check(self, masks: &[u32]) -> bool
         requires { ⌜ Sized self × Playable (self .w) (self .h) (now masks) ⌝ }
-        ensures { λ r. ⌜ ((z : Puzzle) → Table z (self .w) (self .h) (now (masks .entry)) → r ≡ check z (boardOf self)) ⌝ }
+        ensures { λ r. ⌜ Passes self (now (masks .entry)) r ⌝ }
     {
         let w = self.w;
         let h = self.h;

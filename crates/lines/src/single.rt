@@ -16,6 +16,7 @@ ghost use mathlib.Core.Path.{_≡_};
 ghost use Prim.Native.Nat.{_≤_};
 ghost use Rattle.rules.specs.Clues.{clueOf};
 ghost use Rattle.rules.specs.Answers.{lineCells?, line, reduceLine};
+ghost use Rattle.rules.specs.Promises.{LinePromised};
 ghost use Rattle.lines.specs.Layout.{given, refusal};
 
 // Whether the bytes are the clue of one line, and nothing more.
@@ -50,9 +51,11 @@ fn refusal(k: usize, clue: &[u8], cells: &[u8]) -> u8
     ACCEPTED
 }
 
-// 1, and the cells have the reduced sets; 3 at a contradiction; 12, 14, 15 where the colours, the clue or the cells are refused. But after 1 the cells are as they were.
+// 1, and the cells have the reduced sets; 3 at a contradiction; 12, 14, 15 where the colours, the clue or the cells are refused. After any number but 1 the cells are as they were.
+// The number and every cell are those of the rules, and they mean what `Reduces` says: the colours that are possible, or that no line is arranged.
 pub fn reduce_line(k: usize, clue: &[u8], cells: &mut [u8]) -> u8
     ensures { λ r. ⌜ line r (now (cells .exit)) ≡ reduceLine k (now (clue .entry)) (now (cells .entry)) ⌝ }
+    ensures promised { λ r. ⌜ LinePromised k (now (clue .entry)) (now (cells .entry)) (line r (now (cells .exit))) ⌝ }
 {
     let refused = refusal(k, clue, cells);
     if refused != ACCEPTED {

@@ -12,7 +12,7 @@ fn main() {
     io::write_all(OUT, b"\n");
 }
 
-// The document's rates, and pairs at the edge of what is refused.
+// The worked rates, and pairs at the edge of what is refused.
 fn examples() {
     line(4, 0);
     line(9, 3);

@@ -1,6 +1,7 @@
 -- Fitting grids and boards: a fitting grid narrows the board, stays where a cell gets its colour or loses another, and a solved board that passes the final check is one, and the only one.
 use mathlib.Core.Path.{_≡_, refl, sym, ap, ap₂, subst, _∙_}
-use mathlib.Core.Bool.{true, false, not}
+use mathlib.Core.Logic.{_↔_}
+use mathlib.Core.Bool.{Bool, true, false, not}
 use mathlib.Core.List.{List, [], _∷_, map, map-map, List·Memᴰ·head, List·Memᴰ·tail}
 use Prim.Native.Nat.{ℕ, suc, _*_, _^_, _≤_, _<_}
 use native.Mathlib.Omega.{arith}
@@ -14,7 +15,7 @@ use Rattle.rules.specs.Sets.{Colour, has, single, empty, only, without, 
 use Rattle.rules.specs.Lines.{From, end, cell, fits}
 use Rattle.rules.specs.Boards.{Board, Cell, at, put, remove, removeAll, solved, Puzzle, lineCount, lineCells, lineOf, clueAt}
 use Rattle.rules.specs.Propagation.{write, check}
-use Rattle.rules.specs.Promises.{Fits, _⊑_}
+use Rattle.rules.specs.Promises.{AllMeet, Fits, _⊑_}
 use Rattle.rules.proofs.Tests.{by-test, by-equal, clash, and-true, true-and}
 use Rattle.rules.proofs.Lists.{In, every-out, every-in, getD-in, getD-map, map-same, from-low, below}
 use Rattle.rules.proofs.Sets.{has-in, in-has, only-one, only-self, byte-colour, single-some, single-only, member-pos, has-without, some-member, not-empty}
@@ -147,12 +148,30 @@ module _ (z : Puzzle) where
   pub line-alone : {b g : Board} (f : Fits z b g) (i : ℕ) → Sized z b → i < lineCount z → lineOf z g i ≡ map only (map (colourAt f) (lineCells z i))
   line-alone f i e h = ap (λ l. lineOf z l i) (f .alone) ∙ single-cells (f .colours) (lineCells z i) (λ c m. let l = line-low z i h m in let k = from-length (f .taken) in omega arith)
 
-  -- a fitting grid passes the final check
-  pub fits-check : {b g : Board} → Fits z b g → Sized z b → check z g ≡ true
+  -- ## The final check
+
+  -- A SOLVED BOARD PASSES exactly if every line meets its clue
+  pub check-meets : (l : List Colour) → Sized z (map only l) → (check z (map only l) ≡ true) ↔ AllMeet z l
   unfolding check
-  fits-check {b} {g} f e = every-in (λ i. fits (clueAt z i) (lineOf z g i)) (from 0 (lineCount z))
-      (λ i m. let l = from-low 0 (lineCount z) m in let h : i < lineCount z = omega arith in
-      subst (λ s. fits (clueAt z i) s ≡ true) (sym (line-alone f i e h)) (meets-solved (clueAt z i) (map (colourAt f) (lineCells z i)) (f .meets i h)))
+  check-meets l e = (
+    λ h i k. solved-meets (clueAt z i) (coloursIn i) (subst (λ s. fits (clueAt z i) s ≡ true) (alone i k) (every-out passes (from 0 (lineCount z)) h (below (lineCount z) i k))),
+    λ m. every-in passes (from 0 (lineCount z))
+        (λ i n. let r = from-low 0 (lineCount z) n in let k : i < lineCount z = omega arith in
+        subst (λ s. fits (clueAt z i) s ≡ true) (sym (alone i k)) (meets-solved (clueAt z i) (coloursIn i) (m i k))),
+  )
+    where
+      coloursIn : ℕ → List Colour
+      coloursIn i = map (λ c. getD l c 0) (lineCells z i)
+
+      passes : ℕ → Bool
+      passes i = fits (clueAt z i) (lineOf z (map only l) i)
+
+      alone : (i : ℕ) → i < lineCount z → lineOf z (map only l) i ≡ map only (coloursIn i)
+      alone i k = single-cells l (lineCells z i) (λ c m. let q = line-low z i k m in let n = length-map l only in omega arith)
+
+  -- a fitting grid passes
+  pub fits-check : {b g : Board} → Fits z b g → Sized z b → check z g ≡ true
+  fits-check f e = subst (λ g. check z g ≡ true) (sym (f .alone)) (check-meets (f .colours) (ap length (sym (f .alone)) ∙ fits-long f ∙ e) .1 (f .meets))
 
 module _ (z : Puzzle) (k : ℕ) (few : k ≤ 7) where
   -- ## Boards that can be played
@@ -192,16 +211,12 @@ module _ (z : Puzzle) (k : ℕ) (few : k ≤ 7) where
 
   -- A SOLVED BOARD THAT PASSES THE FINAL CHECK FITS
   pub check-fits : {b : Board} → Playable z k b → solved b ≡ true → check z b ≡ true → Fits z b b
-  unfolding check
   check-fits {b} p e h =
       let r = single-colours b (λ c _. playable-byte p c) e in record {
         colours = r .0;
         alone = r .1;
         taken = r .2;
-        meets = λ i l. solved-meets (clueAt z i) (map (λ c. getD (r .0) c 0) (lineCells z i))
-            (subst (λ s. fits (clueAt z i) s ≡ true)
-            (ap (λ d. lineOf z d i) (r .1) ∙ single-cells (r .0) (lineCells z i) (λ c m. let q = line-low z i l m in let n = from-length (r .2) in let y = p .sized in omega arith))
-            (every-out (λ j. fits (clueAt z j) (lineOf z b j)) (from 0 (lineCount z)) h (below (lineCount z) i l)));
+        meets = check-meets z (r .0) (ap length (sym (r .1)) ∙ p .sized) .0 (subst (λ g. check z g ≡ true) (r .1) h);
       }
 
   -- a solved board that fails it has no grid

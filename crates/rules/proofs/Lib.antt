@@ -39,4 +39,6 @@ pub mod Trying
 pub mod Searching
 pub mod Accepting
 pub mod Promises
+pub mod Judging
+pub mod OneLine
 pub mod Order

@@ -167,18 +167,6 @@ module _ (a : Asked) (clues : List Clue) (y : Accepted a clues) where
       mul-le-mul-left (a .mostDepth + 2) (mostProbing-few (a .k) mostColours (length (a .cells)) 256 (accepted-colours a clues y) (accepted-few a clues y)) in
       omega arith
 
-  -- A GRID THAT IS HANDED OVER AS THE BOARD IS JUDGED, whatever the limits: 1 where it fits, and 3 where it does not
-  abbrev Judged : ℕ → Type 0
-  Judged n = ((n ≡ 1) × Fits z (a .cells) (a .cells)) ⊎ ((n ≡ 3) × (Fits z (a .cells) (a .cells) → ⊥))
-
-  pub judged : solved (a .cells) ≡ true → Judged (solve a .number)
-  unfolding wholeRun
-  judged e = subst (λ r. Judged (r .number)) (sym (accepted-searched a clues y ∙ ap (answerOf a) (passed (begun z (limitsOf a) (probe z (a .cells) (startQueue z (a .cells)) fresh)) e)))
-      (on-test (λ o. Judged (answerOf a o .number)) (check z (a .cells)) (λ h. inl (refl, check-fits z (a .k) few given e h)) (λ h. inr (refl, λ f. unchecked-none z (a .k) few given e h f)))
-    where
-      few : a .k ≤ 7
-      few = let h = accepted-colours a clues y in omega arith
-
 -- `solve` KEEPS THE PROMISE
 pub solve-promised : (a : Asked) → Promised a (solve a)
 solve-promised a = record {

@@ -1,4 +1,4 @@
--- Worked examples that antt computes from the definitions: a file for each file of definitions, and the document's own starred grids in `Starred`.
+-- Worked examples that antt computes from the definitions: a file for each file of definitions, and the starred grids of `docs/RULES.md` in `Starred`.
 pub mod Computed
 pub mod Starred
 pub mod Sets

@@ -1,4 +1,4 @@
--- The rules of the search, in the order of the document: words on lists and loops, then each heading in a file of its own.
+-- The rules of the search, told in `docs/RULES.md` in the same order: words on lists and loops, then each subject in a file of its own.
 pub mod Lists
 pub mod Loops
 pub mod Sets

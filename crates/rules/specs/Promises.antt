@@ -1,6 +1,6 @@
 -- What the answers promise: which grids fit, and what may be said of them after a solved board, a list or a dead end. `proofs/Promises.antt` proves it.
 use mathlib.Core.Path.{_≡_}
-use mathlib.Core.Logic.{_⊎_}
+use mathlib.Core.Logic.{_⊎_, _↔_}
 use mathlib.Core.Bool.{true, false, _||_}
 use mathlib.Core.List.{List, [], _∷_, map, List·Memᴰ as In}
 use mathlib.Core.Option.{Option, none, some}
@@ -8,22 +8,26 @@ use Prim.Native.Nat.{ℕ, zero, suc, _+_, _*_, _≤_, _<_}
 use lib.ListN.{length, getD, take, drop}
 use lib.Dec.{leb, eqb}
 use Rattle.rules.specs.Sets.{Colour, has, setOf, only}
-use Rattle.rules.specs.Clues.{Clue, cluesOf}
-use Rattle.rules.specs.Lines.{Meets, From, reduce}
-use Rattle.rules.specs.Boards.{Board, Cell, at, Puzzle, lineCount, rowOf, columnOf, lineCells, lineOf, clueAt}
+use Rattle.rules.specs.Clues.{Clue, cluesOf, clueOf}
+use Rattle.rules.specs.Lines.{Meets, From, Reduces, reduce}
+use Rattle.rules.specs.Boards.{Board, Cell, at, solved, Puzzle, lineCount, rowOf, columnOf, lineCells, lineOf, clueAt}
 use Rattle.rules.specs.Propagation.{write, pend, propagate}
 use Rattle.rules.specs.Probing.{steps}
 use Rattle.rules.specs.Search.{Limits, Outcome, solvedAs, listed, deadEnd}
-use Rattle.rules.specs.Answers.{side, colourCount, limits, board, Asked, Answer}
+use Rattle.rules.specs.Answers.{side, colourCount, limits, board, Asked, Answer, LineAnswer, lineCells?}
 
 -- ## Fitting grids
+
+-- every row and every column meets its clue, where the cells have these colours, row by row
+abbrev pub AllMeet : Puzzle → List Colour → Type 0
+AllMeet z colours = (i : ℕ) → i < lineCount z → Meets (clueAt z i) (map (λ c. getD colours c 0) (lineCells z i))
 
 -- A fitting grid takes each cell's colour from those the given board allows and meets every clue.
 pub record Fits (z : Puzzle) (given grid : Board) : Type 0 where
   pub colours : List Colour  -- a colour for each cell, row by row
   pub alone : grid ≡ map only colours  -- each cell of the grid has its colour alone
   pub taken : From given colours  -- each colour is one of those that the given board allows there
-  pub meets : (i : ℕ) → i < lineCount z → Meets (clueAt z i) (map (λ c. getD colours c 0) (lineCells z i))
+  pub meets : AllMeet z colours
 
 -- A narrowing has the same cells, and in each only colours that the other board has there.
 pub record _⊑_ (a b : Board) : Type 0 where
@@ -131,3 +135,51 @@ pub record Promised (a : Asked) (r : Answer) : Type 0 where
   pub any-order : (clues : List Clue) → Accepted a clues → (b : Board) (c : Cell) → length b ≡ a .w * a .h → ((e : Cell) → at b e < 256) → AnyOrder (puzzleOf a clues) b c
   -- The steps are at most budget + (most depth + 2)·787,456.
   pub most-steps : r .steps ≤ a .budget + (a .mostDepth + 2) * 787_456
+
+-- ## A grid handed over as the board
+
+-- A grid takes its colours from the given board: each of its cells is solved, with a colour that the given board has there.
+abbrev pub Takes : Board → Board → Type 0
+Takes given grid = (solved grid ≡ true) × grid ⊑ given
+
+-- the same input with a grid for its board; the given cells are no longer there
+abbrev pub handed : Asked → Board → Asked
+handed a grid = record {
+  w = a .w;
+  h = a .h;
+  k = a .k;
+  mostGrids = a .mostGrids;
+  mostDepth = a .mostDepth;
+  budget = a .budget;
+  clues = a .clues;
+  cells = grid;
+  list = a .list;
+}
+
+-- what the answer r to the grid handed over tells of the puzzle as given
+pub record Judges (z : Puzzle) (given grid : Board) (r : Answer) : Type 0 where
+  -- The grid fits exactly if it takes its colours from the given board and is answered as solved.
+  pub right : Fits z given grid ↔ (Takes given grid × (r .number ≡ 1))
+  -- A grid that takes its colours from the given board and does not fit is answered as a dead end.
+  pub wrong : Takes given grid → (Fits z given grid → ⊥) → r .number ≡ 3
+
+-- ## Reducing one line
+
+-- a line that is accepted: no test refuses it, and its bytes mean this clue
+pub record LineAccepted (k : ℕ) (bytes cells : List ℕ) (clue : Clue) : Type 0 where
+  pub colours : colourCount k ≡ true
+  pub read : clueOf k bytes ≡ some clue
+  pub sets : lineCells? k cells ≡ true
+
+-- what is promised of the answer to an accepted line
+pub record LinePromise (clue : Clue) (cells : List ℕ) (r : LineAnswer) : Type 0 where
+  -- It is answered as reduced or as a contradiction.
+  pub answered : (r .number ≡ 1) ⊎ (r .number ≡ 3)
+  -- After 1 some line is arranged, and each cell has exactly the colours that are possible there.
+  pub reduced : r .number ≡ 1 → Reduces clue cells (some (r .cells))
+  -- After 3 no line is arranged.
+  pub contradiction : r .number ≡ 3 → Reduces clue cells none
+
+-- what the answer to any line promises
+abbrev pub LinePromised : ℕ → List ℕ → List ℕ → LineAnswer → Type 0
+LinePromised k bytes cells r = (clue : Clue) → LineAccepted k bytes cells clue → LinePromise clue cells r

@@ -1,4 +1,4 @@
-// Runs the grids that document 01 works by hand and leaves to a program, and prints whether what comes of each is what the document says.
+// Runs the worked grids of docs/RULES.md that are left to a program, and prints whether what comes of each is what that page says.
 ghost use Prim.Native.Nat.{_≤_};
 use expected::Expected;
 use expected::Question;
@@ -64,7 +64,7 @@ fn bounds() -> bool {
     twin(4, 15, 1000000001, ended(13))
 }
 
-// A listed answer. Where the document leaves the steps or the deepest unsaid, they are those of the vectors.
+// A listed answer. Where the page leaves the steps or the deepest unsaid, they are those of the vectors.
 fn listed(grids: u64, steps: u64, deepest: u64, limit: u64) -> Expected {
     Expected {
         number: 2,

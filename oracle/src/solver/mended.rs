@@ -1,4 +1,4 @@
-//! The published search with the four mends of document 01, and what its patches call.
+//! The published search with the four mends of docs/RULES.md, and what its patches call.
 
 // For the published file, which is not ours to change.
 #![allow(dead_code, clippy::all)]

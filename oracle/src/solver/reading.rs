@@ -46,7 +46,7 @@ where
 /// The search over the stand-in.
 pub type Search = Solver<ColouredBlock, FullProbe1<ColouredBlock>, Placing>;
 
-/// Document 01's search over bytes. What is refused, and where the answer's bytes go, is the same for both builds.
+/// The search over bytes. What is refused, and where the answer's bytes go, is the same for both builds.
 #[allow(clippy::too_many_arguments)]
 pub fn solve(
     w: usize,

@@ -47,7 +47,7 @@ pub fn search_cases() -> Vec<Puzzle> {
     once
 }
 
-/// The puzzles that document 01 works by hand, and the largest input that it allows.
+/// The worked puzzles of docs/RULES.md, and the largest input that the rules allow.
 fn worked() -> Vec<Puzzle> {
     let one_cell = |row: Clue, column: Clue, cell| {
         Puzzle::new(1, 1, 1, &[row, column], vec![cell]).with_limits(1, 15, 100)

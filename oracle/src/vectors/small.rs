@@ -40,7 +40,7 @@ fn line(k: usize, clue: &[u8], cells: &[u8]) -> Row {
     row
 }
 
-/// The lines that document 01 works by hand.
+/// The worked lines of docs/RULES.md.
 fn worked_lines() -> Vec<Row> {
     vec![
         line(1, &clue_bytes(&[(1, 3)]), &[3; 5]),

@@ -25,7 +25,7 @@ other-order : fits (b 2 1 ∷ b 1 2 ∷ []) (1 ∷ 2 ∷ 2 ∷ 1 ∷ 4 ∷ []) �
 unfolding computed
 other-order = refl
 
--- a clue that does not fit: three cells and a blank between two blocks of two
+-- a clue that does not fit: two blocks of two cells and the blank between them, in four cells
 too-long : reduce (b 1 2 ∷ b 1 2 ∷ []) (3 ∷ 3 ∷ 3 ∷ 3 ∷ []) ≡ none
 unfolding computed
 too-long = refl

@@ -1,13 +1,15 @@
 -- Promises, worked on Twin: 2 by 2, each line one block of 1.
 use mathlib.Core.Path.{_≡_, refl}
+use mathlib.Core.Bool.{false≢true}
 use mathlib.Core.List.{[], _∷_, map}
 use Prim.Native.Nat.{ℕ, zero, suc, _<_}
 use native.Mathlib.Omega.{arith}
 use lib.ListN.{getD}
 use Rattle.rules.specs.Clues.{Clue}
 use Rattle.rules.specs.Lines.{Meets, nothing, blank, block, end, cell}
-use Rattle.rules.specs.Boards.{Puzzle, lineCells, clueAt}
-use Rattle.rules.specs.Promises.{Fits, mostProbing, parts}
+use Rattle.rules.specs.Boards.{Board, Puzzle, lineCells, clueAt}
+use Rattle.rules.specs.Answers.{Asked, solve}
+use Rattle.rules.specs.Promises.{Fits, Takes, handed, mostProbing, parts}
 use Rattle.rules.specs.Examples.Computed.{computed}
 
 abbrev one : Clue
@@ -34,6 +36,32 @@ fitting = record { colours = 0 ∷ 1 ∷ 1 ∷ 0 ∷ []; alone = refl; taken = c
     meets (suc (suc zero)) h = last
     meets (suc (suc (suc zero))) h = first
     meets (suc (suc (suc (suc i)))) h = absurd (omega arith)
+
+-- ## A grid handed over as the board
+
+-- Twin whose first cell is given as filled: only the other grid fits it
+abbrev given : Board
+given = 2 ∷ 3 ∷ 3 ∷ 3 ∷ []
+
+abbrev asked : Asked
+asked = record { w = 2; h = 2; k = 1; mostGrids = 0; mostDepth = 0; budget = 0; clues = 1 ∷ 1 ∷ 1 ∷ 1 ∷ 1 ∷ 1 ∷ 1 ∷ 1 ∷ 1 ∷ 1 ∷ 1 ∷ 1 ∷ []; cells = given; list = [] }
+
+-- the grid above, handed over, is answered as solved, since it meets every clue;
+clues-met : solve (handed asked (1 ∷ 2 ∷ 2 ∷ 1 ∷ [])) .number ≡ 1
+unfolding computed
+clues-met = refl
+
+-- but it does not take its colours from the given board, and so does not fit.
+other-colours : Takes given (1 ∷ 2 ∷ 2 ∷ 1 ∷ []) → ⊥
+unfolding computed
+other-colours t = false≢true (t .1 .each 0 0 refl)
+
+-- a grid that breaks a clue is answered as a dead end
+clue-broken : solve (handed asked (2 ∷ 1 ∷ 1 ∷ 1 ∷ [])) .number ≡ 3
+unfolding computed
+clue-broken = refl
+
+-- ## Steps and parts
 
 -- the most steps of a run of probing over 256 cells and 3 colours, and over Twin
 largest-board : mostProbing 3 256 ≡ 787_456

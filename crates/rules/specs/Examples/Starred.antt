@@ -1,4 +1,4 @@
--- The document's grids worked by hand that are starred, 1 to 6 and 8 to 12, as a single table: what the definitions give equals what the document says.
+-- The worked grids of `docs/RULES.md` that are starred, 1 to 6 and 8 to 12, as a single table: what the definitions give equals what that page says.
 use mathlib.Core.Path.{_≡_, refl}
 use mathlib.Core.Bool.{false}
 use mathlib.Core.List.{List, [], _∷_, map}
@@ -64,7 +64,7 @@ given =
     ∷ searchIs (solve twin)
     ∷ []
 
--- what the document says
+-- what the page says
 unfoldable pub said : List Row
 said =
     lineIs (line 1 (3 ∷ 3 ∷ 2 ∷ 3 ∷ 3 ∷ []))

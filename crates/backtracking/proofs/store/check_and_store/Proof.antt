@@ -19,13 +19,13 @@ returns c =
     let t = c .before .before .before .before in
     let s = t .before .before .before .before in
     let a = s .args in
-    stores-met (a .b) _ _ (a .l) (a .s) _ _ _ (s .pre .sized) (board-cells (a .b) _ (s .good .0)) (t .if1 .taken) (t .before .check .ensures) (c .before .before .add-solution .ensures)
+    stores-met (a .b) _ _ (a .l) (a .s) _ _ _ (s .pre .sized) (board-cells (a .b) _ (s .good .0)) (t .if1 .taken) (t .before .check .ensures .is) (c .before .before .add-solution .ensures)
 
 returns-2 : tie.Need-returns-2
 returns-2 c =
     let s = c .before .before .before .before in
     let a = s .args in
-    stores-failed (a .b) _ _ (a .l) (a .s) _ (s .pre .few) (c .if1 .left) (c .before .check .ensures)
+    stores-failed (a .b) _ _ (a .l) (a .s) _ (s .pre .few) (c .if1 .left) (c .before .check .ensures .is)
 
 pub check-and-store-spec : {M : Type 1} → statement M
 check-and-store-spec =

@@ -20,7 +20,7 @@ returns : tie.Need-returns
 returns c =
     let t = c .before .before .before .before .before in
     let a = t .before .before .before .before .args in
-    λ list. checked-solved (a .b) (a .masks .now) (a .cells .now) list _ (t .before .check .ensures) (t .if1 .taken) _ (c .plain .ensures) _ (c .before .before .before .give-back .ensures)
+    λ list. checked-solved (a .b) (a .masks .now) (a .cells .now) list _ (t .before .check .ensures .is) (t .if1 .taken) _ (c .plain .ensures) _ (c .before .before .before .give-back .ensures)
 
 plain-requires-2 : tie.Need-plain-requires-2
 plain-requires-2 c κs = search needs
@@ -29,7 +29,7 @@ returns-2 : tie.Need-returns-2
 returns-2 c =
     let t = c .before in
     let a = t .before .before .before .before .args in
-    λ list. checked-dead (a .b) (a .masks .now) (a .cells .now) list _ (t .before .check .ensures) (t .if1 .left) _ (c .plain2 .ensures)
+    λ list. checked-dead (a .b) (a .masks .now) (a .cells .now) list _ (t .before .check .ensures .is) (t .if1 .left) _ (c .plain2 .ensures)
 
 pub checked-spec : {M : Type 1} → statement M
 checked-spec =

@@ -2,7 +2,7 @@
 use mathlib.Core.Path.{sym, _∙_, subst}
 use borrow.Author.Needs.{needs}
 use Rattle.lines.specs.Machines.{reduceBy, Became}
-use Rattle.lines.proofs.Answering.{Accepted, accepted, refused-answer, few-cells, some-bytes, pairs-accepted, reduced-answer, contradiction-answer}
+use Rattle.lines.proofs.Answering.{Accepted, accepted, refused-answer, few-cells, some-bytes, pairs-accepted, reduced-answer, contradiction-answer, promised}
 use Rattle.lines.proofs.single.reduce_line.Statement.{statement}
 use Rattle.lines.proofs.single.reduce_line.Tie as tie
 
@@ -19,7 +19,7 @@ same-length c = search needs
 returns : tie.Need-returns
 returns c =
     let a = c .before .before .before .before .before .args in
-    refused-answer (a .k) (a .clue .now) (a .cells .now) _ (c .before .refusal .ensures) (c .if1 .taken)
+    promised (a .k) (a .clue .now) (a .cells .now) (refused-answer (a .k) (a .clue .now) (a .cells .now) _ (c .before .refusal .ensures) (c .if1 .taken))
 
 sub-machine-of : tie.Need-sub-machine-of
 sub-machine-of c = let a = c .before .before .before .before .before .args in some-bytes (a .k) (a .clue .now) (a .cells .now) (ok c)
@@ -44,7 +44,8 @@ returns-2 c =
     let a = c .before .before .before .before .before .before .before .before .before .before .before .before .args in
     let r = c .before .before .before .reduce-by in
     let m = c .before .before .before .before .before .machine-of in
-    reduced-answer (a .k) (a .clue .now) (a .cells .now) (ok (c .before .before .before .before .before .before .before)) (m .result) _ (m .ensures) (subst (λ v. Became (reduceBy (m .result) (a .cells .now)) (a .cells .now) v (r .last .1 .0)) (c .if2 .taken) (r .ensures))
+    let b = subst (λ v. Became (reduceBy (m .result) (a .cells .now)) (a .cells .now) v (r .last .1 .0)) (c .if2 .taken) (r .ensures) in
+    promised (a .k) (a .clue .now) (a .cells .now) (reduced-answer (a .k) (a .clue .now) (a .cells .now) (ok (c .before .before .before .before .before .before .before)) (m .result) _ (m .ensures) b)
 
 same-length-3 : tie.Need-same-length-3
 same-length-3 c = search needs
@@ -55,7 +56,7 @@ returns-3 c =
     let r = c .before .before .before .reduce-by in
     let m = c .before .before .before .before .before .machine-of in
     let b = subst (λ v. Became (reduceBy (m .result) (a .cells .now)) (a .cells .now) v (r .last .1 .0)) (c .if2 .left) (r .ensures) in
-    contradiction-answer (a .k) (a .clue .now) (a .cells .now) (ok (c .before .before .before .before .before .before .before)) (m .result) _ (m .ensures) (b .0) (b .1)
+    promised (a .k) (a .clue .now) (a .cells .now) (contradiction-answer (a .k) (a .clue .now) (a .cells .now) (ok (c .before .before .before .before .before .before .before)) (m .result) _ (m .ensures) (b .0) (b .1))
 
 pub reduce-line-spec : {M : Type 1} → statement M
 reduce-line-spec =

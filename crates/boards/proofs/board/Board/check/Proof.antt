@@ -3,7 +3,7 @@ use mathlib.Core.Path.{sym, _∙_}
 use native.Mathlib.Omega.{arith}
 use borrow.Author.Tests.{not-true, not-false}
 use Rattle.boards.proofs.Sizes.{board-cells, few-cells}
-use Rattle.boards.proofs.Checking.{Checked, checked-start, checked-turn, checked-fails, checked-end}
+use Rattle.boards.proofs.Checking.{Checked, checked-start, checked-turn, checked-fails, checked-end, check-passes}
 use Rattle.boards.proofs.board.Board.check.Statement.{statement}
 use Rattle.boards.proofs.board.Board.check.Tie as tie
 
@@ -38,8 +38,10 @@ line-fits-requires c κs =
 
 returns : tie.Need-returns Inv-loop μ-loop
 returns c =
+    let s = c .before .before .before .before .before .before .before in
     let l = c .before .before .before .before .loop in
-    checked-fails _ _ _ _ (l .i) (l .inv) (omega (arith, c .before .before .before .loop-test .taken)) (λ z t. sym (c .before .line-fits .ensures z t) ∙ not-true _ (c .if1 .taken))
+    check-passes (s .args .self) _ _ (s .pre .0) (board-cells (s .args .self) _ (s .good .0))
+    (checked-fails _ _ _ _ (l .i) (l .inv) (omega (arith, c .before .before .before .loop-test .taken)) (λ z t. sym (c .before .line-fits .ensures z t) ∙ not-true _ (c .if1 .taken)))
 
 loop-less : tie.Need-loop-less Inv-loop μ-loop
 loop-less c = omega (arith, c .before .before .before .loop-test .taken)
@@ -50,7 +52,9 @@ loop-again c =
     checked-turn _ _ _ _ (l .i) (l .inv) (λ z t. sym (c .before .line-fits .ensures z t) ∙ not-false _ (c .if1 .left))
 
 returns-2 : tie.Need-returns-2 Inv-loop μ-loop
-returns-2 c = checked-end _ _ _ _ (c .before .loop .i) (c .before .loop .inv) (c .loop-test .left)
+returns-2 c =
+    let s = c .before .before .before .before in
+    check-passes (s .args .self) _ _ (s .pre .0) (board-cells (s .args .self) _ (s .good .0)) (checked-end _ _ _ _ (c .before .loop .i) (c .before .loop .inv) (c .loop-test .left))
 
 pub check-spec : {M : Type 1} → statement M
 check-spec =
