@@ -13,8 +13,9 @@ use Rattle.rules.specs.Lists.{every}
 use Rattle.rules.specs.Sets.{proper}
 use Rattle.rules.specs.Clues.{Clue, cluesOf}
 use Rattle.rules.specs.Answers.{side, mostColours, colourCount, limits, board, Asked, Answer, untouched, searched, testCells, solve}
-use Rattle.rules.specs.Promises.{Accepted}
+use Rattle.rules.specs.Promises.{Accepted, puzzleOf}
 use Rattle.rules.proofs.Tests.{on-test, on-option, passed, and-true, true-and}
+use Rattle.rules.proofs.Fitting.{Playable, given-playable}
 
 pub solve-cases : (a : Asked) (P : Answer → Type 0) → ((n : ℕ) → P (untouched a n)) → ((clues : List Clue) → Accepted a clues → P (searched a clues)) → P (solve a)
 unfolding solve
@@ -53,9 +54,16 @@ module _ (a : Asked) (clues : List Clue) (y : Accepted a clues) where
   pub accepted-proper : every (proper (a .k)) (a .cells) ≡ true
   accepted-proper = board-tests .1
 
+  pub accepted-playable : Playable (puzzleOf a clues) (a .k) (a .cells)
+  accepted-playable = given-playable (puzzleOf a clues) (a .k) (a .cells) accepted-sized accepted-proper
+
   -- it has at most 256 cells and the most colours
   pub accepted-colours : a .k ≤ mostColours
   accepted-colours = leb-true (a .k) mostColours (and-true (leb 1 (a .k)) (leb (a .k) mostColours) (y .colours) .1)
+
+  -- a byte has room for them
+  pub accepted-room : a .k ≤ 7
+  accepted-room = let h = accepted-colours in omega arith
 
   pub accepted-few : length (a .cells) ≤ 256
   accepted-few = let e = accepted-sized in let m : a .w * a .h ≤ 16 * 16 = mul-le-mul (low (a .w) (y .width)) (low (a .h) (y .height)) in omega arith

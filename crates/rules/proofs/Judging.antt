@@ -4,7 +4,7 @@ use mathlib.Core.Path.{_≡_, refl, sym, ap, subst, _∙_}
 use mathlib.Core.Logic.{_⊎_, inl, inr, ⊎-elim}
 use mathlib.Core.Bool.{true}
 use mathlib.Core.List.{List}
-use Prim.Native.Nat.{ℕ, suc, _*_, _^_, _≤_, _<_}
+use Prim.Native.Nat.{ℕ, suc, _*_, _^_, _<_}
 use native.Mathlib.Omega.{arith}
 use lib.ListN.{length}
 use borrow.Author.Tests.{eq-eqb, le-leb, lt-ltb}
@@ -21,20 +21,14 @@ use Rattle.rules.proofs.Tests.{on-test, passed, true-and}
 use Rattle.rules.proofs.Lists.{In, every-in, every-out, getD-in, in-getD}
 use Rattle.rules.proofs.Sets.{only-single, single-some, byte-colour, member-pos}
 use Rattle.rules.proofs.Narrowing.{⊑-refl}
-use Rattle.rules.proofs.Accepting.{accepted-searched, accepted-sized, accepted-proper, accepted-colours}
-use Rattle.rules.proofs.Fitting.{Playable, given-playable, playable-byte, playable-below, colourAt, fits-cell, fits-long, fits-sub, fits-on, fits-wider, check-fits, unchecked-none}
+use Rattle.rules.proofs.Accepting.{accepted-searched, accepted-sized, accepted-playable, accepted-room}
+use Rattle.rules.proofs.Fitting.{Playable, playable-byte, playable-below, colourAt, fits-cell, fits-long, fits-sub, fits-on, fits-wider, check-fits, unchecked-none}
 
 -- ## A solved board
 
 module _ (a : Asked) (clues : List Clue) (y : Accepted a clues) where
   abbrev z : Puzzle
   z = puzzleOf a clues
-
-  few : a .k ≤ 7
-  few = let h = accepted-colours a clues y in omega arith
-
-  given-played : Playable z (a .k) (a .cells)
-  given-played = given-playable z (a .k) (a .cells) (accepted-sized a clues y) (accepted-proper a clues y)
 
   -- it is answered as solved where it fits itself, and as a dead end where it does not
   abbrev Judged : ℕ → Type 0
@@ -43,10 +37,11 @@ module _ (a : Asked) (clues : List Clue) (y : Accepted a clues) where
   solved-judged : solved (a .cells) ≡ true → Judged (solve a .number)
   unfolding wholeRun
   solved-judged e = subst (λ r. Judged (r .number)) (sym (accepted-searched a clues y ∙ ap (answerOf a) (passed (begun z (limitsOf a) (probe z (a .cells) (startQueue z (a .cells)) fresh)) e)))
-      (on-test (λ o. Judged (answerOf a o .number)) (check z (a .cells)) (λ h. inl (refl, check-fits z (a .k) few given-played e h)) (λ h. inr (refl, λ f. unchecked-none z (a .k) few given-played e h f)))
+      (on-test (λ o. Judged (answerOf a o .number)) (check z (a .cells)) (λ h. inl (refl, check-fits z (a .k) (accepted-room a clues y) (accepted-playable a clues y) e h)) (λ h. inr (refl, λ f. unchecked-none z (a .k) (accepted-room a clues y) (accepted-playable a clues y) e h f)))
 
 -- ## A grid in the board's place
 
+-- the cells of a board that can be played may be given
 played-proper : (z : Puzzle) (k : ℕ) (b : Board) → Playable z k b → every (proper k) b ≡ true
 unfolding proper
 played-proper z k b p = every-in (proper k) b
@@ -71,7 +66,7 @@ module _ (a : Asked) (clues : List Clue) (y : Accepted a clues) (grid : Board) w
   }
     where
       played : Playable puzzle (a .k) grid
-      played = playable-below puzzle (a .k) (few a clues y) (given-played a clues y) (t .1)
+      played = playable-below puzzle (a .k) (accepted-room a clues y) (accepted-playable a clues y) (t .1)
           (λ c l. let x = single-some (at grid c) (every-out single grid (t .0) (getD-in grid c 0 l)) in member-pos (at grid c) (x .0) (x .2))
 
   -- one that fits takes its colours from the given board
@@ -85,7 +80,7 @@ module _ (a : Asked) (clues : List Clue) (y : Accepted a clues) (grid : Board) w
           let l : i .0 < length (a .cells) = subst (λ n. i .0 < n) (fits-long puzzle f) (i .1) in
           let x = fits-cell puzzle f (i .0) l in
           subst (λ v. single v ≡ true) (sym (i .2 ∙ x .0))
-          (only-single (colourAt puzzle f (i .0)) (byte-colour (at (a .cells) (i .0)) (colourAt puzzle f (i .0)) (playable-byte puzzle (a .k) (few a clues y) (given-played a clues y) (i .0)) (x .1)))
+          (only-single (colourAt puzzle f (i .0)) (byte-colour (at (a .cells) (i .0)) (colourAt puzzle f (i .0)) (playable-byte puzzle (a .k) (accepted-room a clues y) (accepted-playable a clues y) (i .0)) (x .1)))
 
   -- WHETHER A GRID FITS THE PUZZLE AS GIVEN is told by handing it over, under any limits that are accepted
   pub judged : Judges puzzle (a .cells) grid (solve (handed a grid))

@@ -12,9 +12,9 @@ use lib.Pow.{pow-mono}
 use borrow.Author.Tests.{leb-true, ltb-true}
 use Rattle.rules.specs.Lists.{every}
 use Rattle.rules.specs.Sets.{proper}
-use Rattle.rules.specs.Clues.{Clue, clueOf}
+use Rattle.rules.specs.Clues.{Clue}
 use Rattle.rules.specs.Lines.{Reduces, reduce}
-use Rattle.rules.specs.Answers.{side, mostColours, colourCount, LineAnswer, line, lineReduced, lineCells?, testLineCells, reduceLine}
+use Rattle.rules.specs.Answers.{side, mostColours, colourCount, LineAnswer, line, lineReduced, testLineCells, reduceLine}
 use Rattle.rules.specs.Promises.{LineAccepted, LinePromise, LinePromised}
 use Rattle.rules.proofs.Tests.{passed, and-true}
 use Rattle.rules.proofs.Lists.{every-out, getD-in}

@@ -1,6 +1,6 @@
 -- What the answers promise holds of the rules, and so of `solve`, for every accepted input: dead ends, solved boards, lists and their counts mean what they say.
 use mathlib.Core.Path.{_≡_, refl, sym, ap, ap₂, subst, _∙_}
-use mathlib.Core.Logic.{_⊎_, inl, inr}
+use mathlib.Core.Logic.{inl, inr}
 use mathlib.Core.Bool.{true}
 use mathlib.Core.List.{List, [], _∷_, _++_, append-assoc, List·Memᴰ·head, List·Memᴰ·tail, List·Memᴰ·not-nil}
 use Prim.Native.Nat.{ℕ, suc, _+_, _*_, _≤_}
@@ -17,11 +17,11 @@ use Rattle.rules.specs.Guesses.{choose}
 use Rattle.rules.specs.Search.{Limits, End, dead, notDead, Left, left, Outcome, solvedAs, listed, deadEnd, fresh, answered, search, checked, begun, wholeRun}
 use Rattle.rules.specs.Answers.{mostColours, Asked, written, answerOf, searched, solve}
 use Rattle.rules.specs.Promises.{Fits, Distinct, mostProbing, Promise, ofOutcome, parts, ofAnswer, Accepted, puzzleOf, limitsOf, Promised}
-use Rattle.rules.proofs.Tests.{on-test, passed}
+use Rattle.rules.proofs.Tests.{on-test}
 use Rattle.rules.proofs.Lists.{In, in-some}
 use Rattle.rules.proofs.Narrowing.{⊑-trans}
-use Rattle.rules.proofs.Accepting.{accepted-searched, accepted-sized, accepted-proper, accepted-colours, accepted-few, solve-cases}
-use Rattle.rules.proofs.Fitting.{Playable, given-playable, fits-long, fits-wider, fits-one, check-fits, unchecked-none}
+use Rattle.rules.proofs.Accepting.{accepted-searched, accepted-sized, accepted-playable, accepted-colours, accepted-room, accepted-few, solve-cases}
+use Rattle.rules.proofs.Fitting.{Playable, fits-long, fits-wider, fits-one, check-fits, unchecked-none}
 use Rattle.rules.proofs.Keeping.{NoneFits, Deduced, deduced-none, ProbedSound, probe-sound}
 use Rattle.rules.proofs.Steps.{mostProbing-few}
 use Rattle.rules.proofs.Order.{any-order}
@@ -140,9 +140,6 @@ module _ (a : Asked) (clues : List Clue) (y : Accepted a clues) where
   abbrev z : Puzzle
   z = puzzleOf a clues
 
-  given : Playable z (a .k) (a .cells)
-  given = given-playable z (a .k) (a .cells) (accepted-sized a clues y) (accepted-proper a clues y)
-
   -- its bytes say what the rules have come to
   result-same : (o : Outcome) → Promise z (limitsOf a) (a .k) (a .cells) (ofOutcome (a .cells) o) → ofAnswer a (answerOf a o) ≡ ofOutcome (a .cells) o
   unfolding parts written
@@ -153,11 +150,11 @@ module _ (a : Asked) (clues : List Clue) (y : Accepted a clues) where
       (ap (λ l. parts (a .w * a .h) (length l) (a .list)) nothing ∙ sym nothing)
     where
       nothing : s .stored ≡ []
-      nothing = dead-stores-none z (limitsOf a) (a .k) (let h = accepted-colours a clues y in omega arith) (a .cells) given s h
+      nothing = dead-stores-none z (limitsOf a) (a .k) (accepted-room a clues y) (a .cells) (accepted-playable a clues y) s h
 
   searched-promise : Promise z (limitsOf a) (a .k) (a .cells) (ofAnswer a (searched a clues))
   searched-promise =
-      let run = run-promise z (limitsOf a) (a .k) (let h = accepted-colours a clues y in omega arith) (a .cells) given in
+      let run = run-promise z (limitsOf a) (a .k) (accepted-room a clues y) (a .cells) (accepted-playable a clues y) in
       subst (Promise z (limitsOf a) (a .k) (a .cells)) (sym (result-same (wholeRun z (limitsOf a) (a .cells)) run)) run
 
   searched-steps : searched a clues .steps ≤ a .budget + (a .mostDepth + 2) * 787_456
