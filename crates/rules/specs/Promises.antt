@@ -73,7 +73,7 @@ pub record Promise (z : Puzzle) (l : Limits) (k : ℕ) (given : Board) (r : Resu
   pub stored-few : length (r .grids) ≤ l .mostGrids
   -- With no limit met, the list is not empty and holds every fitting grid, and so each exactly once.
   pub complete : r .number ≡ 2 → r .limit ≡ 0 → 0 < length (r .grids) × ((grid : Board) → Fits z given grid → In grid (r .grids))
-  -- The run ends, and its steps are at most the budget and (most depth + 2) runs of probing.
+  -- The steps are at most the budget and (most depth + 2) runs of probing.
   pub steps-few : r .steps ≤ l .budget + (l .mostDepth + 2) * mostProbing k (length given)
 
 -- ## Order does not matter in propagation
