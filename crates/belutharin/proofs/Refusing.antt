@@ -13,7 +13,7 @@ use Rattle.rules.specs.Answers as Rules
 use Rattle.rules.specs.Answers.{side, mostColours, colourCount, limits, board, Asked, untouched, testClues, testCells, searched, solve}
 use Rattle.rules.specs.Promises.{Accepted, Promised}
 use Rattle.rules.proofs.Tests.{passed, and-true}
-use Rattle.rules.proofs.Accepting.{accepted-searched}
+use Rattle.rules.proofs.Accepting.{few-colours, accepted-searched}
 use Rattle.rules.proofs.Promises.{solve-promised}
 use Rattle.belutharin.specs.Refusals.{numberFault, lentFault}
 use Rattle.belutharin.specs.Answers.{answer}
@@ -70,7 +70,7 @@ module _ (a : Asked) where
     legal-height = legal-side (a .h) (sides .1)
 
     pub legal-colours : a .k ≤ mostColours
-    legal-colours = leb-true (a .k) mostColours (and-true (leb 1 (a .k)) (leb (a .k) mostColours) (tests .1) .1)
+    legal-colours = few-colours (a .k) (tests .1)
 
     pub legal-limits : (a .mostGrids ≤ 128) × (a .mostDepth ≤ 15) × (a .budget ≤ 1_000_000_000)
     legal-limits =

@@ -139,9 +139,6 @@ together list w h n i x a p q =
 pub one-part : (list : List ℕ) (w h n i : ℕ) (a b : Handed) → answer a ≡ gridOf list w h n i → answer b ≡ gridOf list w h n i → (a .number ≡ b .number) × (now (a .part) ≡ now (b .part))
 one-part list w h n i a b p q = let e : answer a ≡ answer b = p ∙ sym q in (ap (λ r. r .number) e, ap (λ r. r .part) e)
 
--- the same of `number`, and of `part`
-pub one-number : (list : List ℕ) (w h n i : ℕ) {x y : ℕ} → x ≡ gridOf list w h n i .number → y ≡ gridOf list w h n i .number → x ≡ y
-one-number list w h n i p q = p ∙ sym q
-
-pub one-bytes : (list : List ℕ) (w h n i : ℕ) {a b : List ℕ} → a ≡ gridOf list w h n i .part → b ≡ gridOf list w h n i .part → a ≡ b
-one-bytes list w h n i p q = p ∙ sym q
+-- the same of `number` and of `part`, each a field of the answer
+pub one-field : {A : Type 0} (field : PartAnswer → A) (list : List ℕ) (w h n i : ℕ) {x y : A} → x ≡ field (gridOf list w h n i) → y ≡ field (gridOf list w h n i) → x ≡ y
+one-field field list w h n i p q = p ∙ sym q

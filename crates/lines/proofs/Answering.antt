@@ -15,7 +15,8 @@ use Rattle.rules.specs.Answers.{colourCount, lineCells?, LineAnswer, line, line
 use Rattle.rules.specs.Promises.{LineAccepted, LinePromised}
 use Rattle.rules.proofs.Tests.{clash}
 use Rattle.rules.proofs.Clues.{readLine-exact, clueOf-exact}
-use Rattle.rules.proofs.OneLine.{few-colours, line-few, line-bytes, line-answer, line-promised}
+use Rattle.rules.proofs.Accepting.{few-colours}
+use Rattle.rules.proofs.OneLine.{line-few, line-bytes, line-answer, line-promised}
 use Rattle.lines.specs.declared.layout.LineRead.{LineRead}
 use Rattle.lines.specs.declared.machine.Machine.{Machine}
 use Rattle.lines.specs.Layout.{lineRead, given, firstFault, refusal}

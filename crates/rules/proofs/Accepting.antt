@@ -17,6 +17,9 @@ use Rattle.rules.specs.Promises.{Accepted, puzzleOf}
 use Rattle.rules.proofs.Tests.{on-test, on-option, passed, and-true, true-and}
 use Rattle.rules.proofs.Fitting.{Playable, given-playable}
 
+pub few-colours : (k : ℕ) → colourCount k ≡ true → k ≤ mostColours
+few-colours k e = leb-true k mostColours (and-true (leb 1 k) (leb k mostColours) e .1)
+
 pub solve-cases : (a : Asked) (P : Answer → Type 0) → ((n : ℕ) → P (untouched a n)) → ((clues : List Clue) → Accepted a clues → P (searched a clues)) → P (solve a)
 unfolding solve
 solve-cases a P refused accepted =
@@ -59,7 +62,7 @@ module _ (a : Asked) (clues : List Clue) (y : Accepted a clues) where
 
   -- it has at most 256 cells and the most colours
   pub accepted-colours : a .k ≤ mostColours
-  accepted-colours = leb-true (a .k) mostColours (and-true (leb 1 (a .k)) (leb (a .k) mostColours) (y .colours) .1)
+  accepted-colours = few-colours (a .k) (y .colours)
 
   -- a byte has room for them
   pub accepted-room : a .k ≤ 7

@@ -14,14 +14,12 @@ use Rattle.rules.specs.Lists.{every}
 use Rattle.rules.specs.Sets.{proper}
 use Rattle.rules.specs.Clues.{Clue}
 use Rattle.rules.specs.Lines.{Reduces, reduce}
-use Rattle.rules.specs.Answers.{side, mostColours, colourCount, LineAnswer, line, lineReduced, testLineCells, reduceLine}
+use Rattle.rules.specs.Answers.{side, LineAnswer, line, lineReduced, testLineCells, reduceLine}
 use Rattle.rules.specs.Promises.{LineAccepted, LinePromise, LinePromised}
 use Rattle.rules.proofs.Tests.{passed, and-true}
 use Rattle.rules.proofs.Lists.{every-out, getD-in}
 use Rattle.rules.proofs.Lines.{Bytes, reduce-is}
-
-pub few-colours : (k : ℕ) → colourCount k ≡ true → k ≤ mostColours
-few-colours k e = leb-true k mostColours (and-true (leb 1 k) (leb k mostColours) e .1)
+use Rattle.rules.proofs.Accepting.{few-colours}
 
 module _ (k : ℕ) (bytes cells : List ℕ) (clue : Clue) (y : LineAccepted k bytes cells clue) where
   cell-tests : (side (length cells) ≡ true) × (every (proper k) cells ≡ true)

@@ -3,7 +3,7 @@ use mathlib.Core.Path.{sym, _∙_}
 use native.Mathlib.Omega.{arith}
 use borrow.Author.Needs.{needs}
 use borrow.Author.Tests.{not-true, not-false}
-use Rattle.rules.proofs.OneLine.{few-colours}
+use Rattle.rules.proofs.Accepting.{few-colours}
 use Rattle.lines.proofs.Answering.{refused-colours, refused-clue, refused-cells, refused-none}
 use Rattle.lines.proofs.single.refusal.Statement.{statement}
 use Rattle.lines.proofs.single.refusal.Tie as tie
