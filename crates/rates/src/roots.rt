@@ -14,14 +14,17 @@ const HALF_UNITS: f64 = 36028797018963968.0;
 // 2^60: the top two of 62 binary digits stand above it.
 const TOP: u64 = 1152921504606846976;
 
-// The f64 nearest the root of max/(min+1). The root's digits are worked out in whole numbers, and doubled, with 1 more where anything is left, so that the one rounding goes to the nearest; the
-// multiplication before it and the division after it are exact.
+// The f64 nearest the root of max/(min+1). Quotients of 0 and 1 are their own roots. Of all others the root's digits are worked out in whole numbers, and doubled, with 1 more where anything is left,
+// so that the one rounding goes to the nearest; the multiplication before it and the division after it are exact.
 pub fn root(max: u8, min: u8) -> f64
     requires { ⌜ min ≤ max ⌝ }
     ensures { λ r. ⌜ r ≡ Floats.root (Floats.quotient max min) ⌝ }
     ensures nearest { λ r. ⌜ Nearest (Floats.quotient max min) r ⌝ }
 {
     let quotient = (max as f64) / ((min as u64 + 1) as f64);
+    if quotient == 0.0 || quotient == 1.0 {
+        return quotient;
+    }
     let units = std::num::truncating_f64_to_u64(quotient * UNITS);
     let found = digits(units);
     let doubled = found.root * 2 + sticky(found.rest);
