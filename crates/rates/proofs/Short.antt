@@ -1,6 +1,6 @@
 -- The quotients whose root is not worked out, 0 and 1: each is its own root, and which counts give them.
 use mathlib.Core.Path.{_≡_, refl, sym, subst, _∙_}
-use mathlib.Core.Logic.{_⊎_, inl, inr}
+use mathlib.Core.Logic.{_⊎_, ⊎-elim}
 use mathlib.Core.Bool.{true, false}
 use Prim.Native.Nat.{ℕ, suc, _+_, _*_, _^_, _≤_, _<_}
 use native.Mathlib.Nat.{mul-one, lt-of-not-le}
@@ -16,6 +16,7 @@ use Rattle.rules.specs.Floats.{float, quotient, root, wholeRoot}
 use Rattle.rules.specs.Roots.{Plain, plain}
 use Rattle.rules.proofs.Tests.{and-true, same-test}
 use Rattle.rules.proofs.Plain.{same-number, float-plain, ratio-is}
+use Rattle.rules.proofs.Roots.{nought-root}
 use Rattle.rules.proofs.Rates.{quotient-at-most}
 
 -- ## Their roots
@@ -33,16 +34,15 @@ unfolding eq
 one-equal (plain {m} {e} h) = let a = m * up e * down e in rw (eq-eqb a a refl)
 
 zero-root : float 0 ≡ root (float 0)
-unfolding ofInt root wholeRoot round
-zero-root = refl
+unfolding ofInt round
+zero-root = sym nought-root
 
 one-root : float 1 ≡ root (float 1)
 unfolding ofInt root wholeRoot round
 one-root = refl
 
-own-root : {q : Float} → Plain q → (eq q (float 0) ≡ true) ⊎ (eq q (float 1) ≡ true) → q ≡ root q
-own-root p (inl e) = subst (λ (x : Float). x ≡ root x) (sym (equal-one p (float-plain 0 (lit≤ tt)) e)) zero-root
-own-root p (inr e) = subst (λ (x : Float). x ≡ root x) (sym (equal-one p (float-plain 1 (lit≤ tt)) e)) one-root
+own-root : {q : Float} (n : ℕ) → n ≤ 2 ^ 53 → float n ≡ root (float n) → Plain q → eq q (float n) ≡ true → q ≡ root q
+own-root n l e p t = subst (λ (x : Float). x ≡ root x) (sym (equal-one p (float-plain n l) t)) e
 
 -- ## Their counts
 
@@ -65,7 +65,7 @@ module _ (max min : ℕ) (few : max ≤ 255) (in-order : min ≤ max) where
 
   -- the root of a quotient that is tested to be 0 or 1
   pub short-root : let q = div binary64 (float max) (float (min + 1)) in (eq q (float 0) ≡ true) ⊎ (eq q (float 1) ≡ true) → q ≡ root (quotient max min)
-  short-root = rw add-one (own-root number)
+  short-root = rw add-one (⊎-elim (own-root 0 (lit≤ tt) zero-root number) (own-root 1 (lit≤ tt) one-root number))
 
   rounded : round binary64 false max (suc min) ≡ quotient max min
   rounded = sym (ratio-is max (suc min) (omega arith) (omega arith) (omega arith))
