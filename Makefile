@@ -1,6 +1,6 @@
 # The commands of this repository. `make report` proves the search and shows it at work; `make rules` proves the definitions with their worked examples; `make test` runs every test.
 
-.PHONY: rules report test tidy oracle mends alike library bindings differences benchmark
+.PHONY: rules report test tidy oracle mends alike library bindings differences longer benchmark
 
 # `rt check` runs the program and holds what it writes to its file `stdout`, which is printed then.
 report:
@@ -31,7 +31,7 @@ alike:
 library:
 	@tools/library
 
-# The library and its tests: C, Rust, and a differential run of some thousand cases.
+# The library and its tests: C, Rust, a differential run of some thousand cases, and longer runs beside shorter ones.
 bindings:
 	@tools/bindings
 
@@ -39,7 +39,12 @@ bindings:
 SEED = 1
 COUNT = 100000
 differences: library
-	@tools/differences $(SEED) $(COUNT)
+	@tools/compare differences $(SEED) $(COUNT)
+
+# Longer runs of the library beside its shorter ones, on COUNT pairs from SEED.
+longer: COUNT = 50000
+longer: library
+	@tools/compare longer $(SEED) $(COUNT)
 
 # The library beside the unmended oracle, written to docs/BENCHMARK.md.
 benchmark: library

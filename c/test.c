@@ -38,23 +38,32 @@ static const uint8_t twin_clues[12] = {1, 1, 1, 1, 1, 1, 1, 1, 1, 1, 1, 1};
 static const uint8_t twin_open[4] = {3, 3, 3, 3};
 static const uint8_t twin_grids[8] = {1, 2, 2, 1, 2, 1, 1, 2};
 
-static void test_twin(void)
+/* Twin within a budget: its first so many grids, and nothing written after them. */
+static void twin_within(uint64_t budget, size_t wanted_grids, uint64_t wanted_steps, uint8_t wanted_limit)
 {
     uint8_t cells[4], list[20];
-    size_t grids = 99, deepest = 99;
+    size_t grids = 99, deepest = 99, written = wanted_grids * sizeof cells;
     uint64_t steps = 99;
     uint8_t limit = 99;
     memcpy(cells, twin_open, sizeof cells);
     memset(list, UNTOUCHED, sizeof list);
-    same_number("Twin: number", belutharin_solve(2, 2, 1, twin_clues, sizeof twin_clues, cells, sizeof cells, list, sizeof list, 4, 15, 100, &grids, &steps, &deepest, &limit),
+    same_number("Twin: number", belutharin_solve(2, 2, 1, twin_clues, sizeof twin_clues, cells, sizeof cells, list, sizeof list, 4, 15, budget, &grids, &steps, &deepest, &limit),
                 BELUTHARIN_LISTED);
-    same_number("Twin: grids", grids, 2);
-    same_number("Twin: steps", steps, 8);
+    same_number("Twin: grids", grids, wanted_grids);
+    same_number("Twin: steps", steps, wanted_steps);
     same_number("Twin: deepest", deepest, 1);
-    same_number("Twin: limit", limit, BELUTHARIN_NO_LIMIT);
+    same_number("Twin: limit", limit, wanted_limit);
     same_bytes("Twin: board", cells, twin_open, sizeof cells);
-    same_bytes("Twin: list", list, twin_grids, sizeof twin_grids);
-    all_untouched("Twin: rest of the list", list + sizeof twin_grids, sizeof list - sizeof twin_grids);
+    same_bytes("Twin: list", list, twin_grids, written);
+    all_untouched("Twin: rest of the list", list + written, sizeof list - written);
+}
+
+/* A longer run only adds: the grid of the short one is the first of the others. */
+static void test_twin(void)
+{
+    twin_within(1, 1, 1, BELUTHARIN_STEPS_LIMIT);
+    twin_within(2, 2, 2, BELUTHARIN_STEPS_LIMIT);
+    twin_within(100, 2, 8, BELUTHARIN_NO_LIMIT);
 }
 
 static void test_solved(void)

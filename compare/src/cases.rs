@@ -40,11 +40,14 @@ pub const KINDS: [&str; 8] = [
     "parts of a list",
 ];
 
-/// A case, and the number of its kind. It is the same for the same seed and number, whatever was run before it.
+/// What the case of this number is drawn from. It is the same for the same seed and number, whatever was run before it.
+pub fn drawing(seed: u64, number: usize) -> Random {
+    Random::new(Random::new(seed).bits() ^ Random::new(number as u64).bits())
+}
+
+/// A case, and the number of its kind.
 pub fn case(seed: u64, number: usize) -> (usize, Case) {
-    let mut random = Random::new(seed);
-    let mut random = Random::new(random.bits() ^ Random::new(number as u64).bits());
-    let random = &mut random;
+    let random = &mut drawing(seed, number);
     match random.below(100) {
         0..=57 => (0, Case::Search(puzzle(random))),
         58..=69 => (1, Case::Search(seldom_mended(random))),
@@ -75,7 +78,7 @@ const SHAPES: [((usize, usize), (usize, usize)); 4] = [
 ];
 
 /// The first puzzle of so many in which a mend acts that seldom does, or the last.
-fn seldom_mended(random: &mut Random) -> Puzzle {
+pub fn seldom_mended(random: &mut Random) -> Puzzle {
     let mut left = 40;
     loop {
         let ((least_w, most_w), (least_h, most_h)) = random.pick(&SHAPES);

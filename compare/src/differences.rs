@@ -3,6 +3,7 @@
 use crate::{
     cases::{case, Case, KINDS},
     library,
+    progress::show,
     shrink::{size, smallest},
 };
 use oracle::{
@@ -10,10 +11,7 @@ use oracle::{
     puzzle::{Outcome, Puzzle},
     raw, unmended,
 };
-use std::{
-    io::{stderr, IsTerminal, Write},
-    time::Instant,
-};
+use std::time::Instant;
 
 /// What a run has counted.
 #[derive(Default)]
@@ -52,7 +50,10 @@ pub fn run(seed: u64, count: usize) -> Result<(), String> {
                 puzzle,
             });
         }
-        show(number + 1, count, faults.len(), counts.from_unmended);
+        let (done, wrong, mended) = (number + 1, faults.len(), counts.from_unmended);
+        show(done, count, || {
+            format!("{done} of {count} cases, {wrong} faults, {mended} differ from the unmended oracle by a mend")
+        });
     }
     let seconds = begun.elapsed().as_secs();
     summary(seed, count, &counts, faults.len());
@@ -74,18 +75,6 @@ pub fn run(seed: u64, count: usize) -> Result<(), String> {
         print_runs(&smallest(puzzle, is_fault));
     }
     Err(format!("{} of {count} cases differ", faults.len()))
-}
-
-/// Shows how far the run is: on a terminal in one line that is written anew, and elsewhere ten times.
-fn show(done: usize, count: usize, faults: usize, from_unmended: usize) {
-    let text = format!("{done} of {count} cases, {faults} faults, {from_unmended} differ from the unmended oracle by a mend");
-    let terminal = stderr().is_terminal();
-    if terminal && (done.is_multiple_of(100) || done == count) {
-        eprint!("\r{text}{}", if done == count { "\n" } else { "" });
-        let _ = stderr().flush();
-    } else if !terminal && (done.is_multiple_of((count / 10).max(1)) || done == count) {
-        eprintln!("{text}");
-    }
 }
 
 type Differs = (String, Option<Box<Puzzle>>);

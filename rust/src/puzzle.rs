@@ -158,6 +158,21 @@ pub(crate) fn clue_bytes(clue: &[Block]) -> Vec<u8> {
 /// let limits = Limits { most_grids: 2, ..Limits::default() };
 /// assert_eq!((limits.most_depth, limits.budget), (15, 100_000));
 /// ```
+///
+/// A longer run only adds. With a larger budget, more grids or both, at the same `most_depth`, a puzzle that was solved or a dead end is so again, and the
+/// grids that were listed are the first of the list; where there were none, it may be a dead end. If no limit was met, nothing changes. Nothing is said of
+/// a larger `most_depth`.
+///
+/// ```
+/// use belutharin::{solve, Limits, Puzzle};
+///
+/// let twin = Puzzle::new(vec![vec![1], vec![1]], vec![vec![1], vec![1]]);
+/// let short = solve(&twin, Limits { budget: 1, ..Limits::default() })?;
+/// let longer = solve(&twin, Limits::default())?;
+/// assert_eq!((short.grids().count(), longer.grids().count()), (1, 2));
+/// assert!(short.grids().eq(longer.grids().take(1)));
+/// # Ok::<(), belutharin::Refusal>(())
+/// ```
 #[derive(Clone, Copy, Debug, PartialEq, Eq)]
 pub struct Limits {
     /// The search ends with so many grids stored: at most 128.

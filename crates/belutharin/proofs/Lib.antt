@@ -2,3 +2,4 @@
 pub mod Refusing
 pub mod Answering
 pub mod Accepting
+pub mod Rerunning

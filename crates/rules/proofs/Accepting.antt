@@ -3,7 +3,7 @@ use mathlib.Core.Path.{_≡_, ap, _∙_}
 use mathlib.Core.Bool.{true, _&&_}
 use mathlib.Core.List.{List}
 use mathlib.Core.Option.{Option, none, some}
-use Prim.Native.Nat.{ℕ, _+_, _*_, _≤_}
+use Prim.Native.Nat.{ℕ, _+_, _*_, _≤_, _<_}
 use native.Mathlib.Nat.{mul-le-mul}
 use native.Mathlib.Omega.{arith}
 use lib.ListN.{length}
@@ -20,21 +20,26 @@ use Rattle.rules.proofs.Fitting.{Playable, given-playable}
 pub few-colours : (k : ℕ) → colourCount k ≡ true → k ≤ mostColours
 few-colours k e = leb-true k mostColours (and-true (leb 1 k) (leb k mostColours) e .1)
 
-pub solve-cases : (a : Asked) (P : Answer → Type 0) → ((n : ℕ) → P (untouched a n)) → ((clues : List Clue) → Accepted a clues → P (searched a clues)) → P (solve a)
+-- what holds of every refusal, whose number is above 10, and of every accepted input's answer holds of all answers
+pub solve-cases : (a : Asked) (P : Answer → Type 0) → ((n : ℕ) → 10 < n → P (untouched a n)) → ((clues : List Clue) → Accepted a clues → P (searched a clues)) → P (solve a)
 unfolding solve
 solve-cases a P refused accepted =
     on-test P (side (a .w) && side (a .h))
     (λ e. on-test P (colourCount (a .k))
     (λ k. on-test P (limits (a .mostGrids) (a .mostDepth) (a .budget))
-    (λ l. on-option P (cluesOf (a .k) (a .h + a .w) (a .clues)) (λ _. refused 14)
+    (λ l. on-option P (cluesOf (a .k) (a .h + a .w) (a .clues)) (λ _. refused 14 (omega arith))
     (λ clues r. on-test P (board (a .k) (a .w * a .h) (a .cells))
     (λ c. on-test P (leb (a .mostGrids * (a .w * a .h)) (length (a .list)))
     (λ m. let s = and-true (side (a .w)) (side (a .h)) e in accepted clues (record { width = s .0; height = s .1; colours = k; limited = l; read = r; cells = c; room = m }))
-    (λ _. refused 16))
-    (λ _. refused 15)))
-    (λ _. refused 13))
-    (λ _. refused 12))
-    (λ _. refused 11)
+    (λ _. refused 16 (omega arith)))
+    (λ _. refused 15 (omega arith))))
+    (λ _. refused 13 (omega arith)))
+    (λ _. refused 12 (omega arith)))
+    (λ _. refused 11 (omega arith))
+
+-- an input that is answered by 1, 2 or 3 is accepted
+pub answered-accepted : (a : Asked) → solve a .number ≤ 3 → (clues : List Clue) × Accepted a clues
+answered-accepted a = solve-cases a (λ r. r .number ≤ 3 → (clues : List Clue) × Accepted a clues) (λ n h k. absurd (omega arith)) (λ clues y _. (clues, y))
 
 module _ (a : Asked) (clues : List Clue) (y : Accepted a clues) where
   pub accepted-searched : solve a ≡ searched a clues

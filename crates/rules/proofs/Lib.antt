@@ -40,5 +40,8 @@ pub mod Searching
 pub mod Accepting
 pub mod Promises
 pub mod Judging
+pub mod Growing
+pub mod Parting
+pub mod Longer
 pub mod OneLine
 pub mod Order

@@ -1,5 +1,6 @@
--- A loop whose measure falls: its steps never run out, the equation that determines it, one turn of it, and the rule of invariants.
-use mathlib.Core.Path.{_≡_, refl, ap, _∙_}
+-- A loop whose measure falls: its steps never run out, the equation that determines it, one turn of it, the rule of invariants, and two such loops abreast.
+use mathlib.Core.Path.{_≡_, refl, sym, ap, subst, _∙_}
+use mathlib.Core.Logic.{_⊎_, inl, inr}
 use Prim.Native.Nat.{ℕ, zero, suc, _<_}
 use native.Mathlib.Omega.{arith}
 use Rattle.rules.specs.Loops.{Turn, more, stop, Holds, result, turns, Falls, run}
@@ -54,3 +55,33 @@ module _ {S R : Type 0} (step : S → Turn S R) (measure : S → ℕ) (falls : F
     pub run-ends : (d : S → R) (s : S) → I s → Q (run step measure d s)
     unfolding run
     run-ends d s i = ends d (suc (measure s)) s (omega arith) i
+
+-- ## Two loops abreast, with one measure
+
+module _ {S R : Type 0} (measure : S → ℕ) (unended : S → R) where
+  -- what comes of a step
+  abbrev pub onward : (S → Turn S R) → Turn S R → R
+  onward step o = elim o as (λ _. R) [ more t ↦ run step measure unended t | stop r ↦ r ]
+
+  module _ (step other : S → Turn S R) (Q : R → R → Type 0) where
+    -- two steps are one, or what comes of them is related
+    abbrev pub Abreast : Turn S R → Turn S R → Type 0
+    Abreast o p = (o ≡ p) ⊎ Q (onward step o) (onward other p)
+
+    module _ (falls : Falls step measure) (falls′ : Falls other measure) (same : (r : R) → Q r r) (abreast : (s : S) → Abreast (step s) (other s)) where
+      step-by-step : (n : ℕ) (s : S) → measure s < n → Q (run step measure unended s) (run other measure unended s)
+      step-by-step zero s h = absurd (omega arith)
+      step-by-step (suc n) s h = subst (λ r. Q r (run other measure unended s)) (sym (run-is step measure falls unended s))
+          (subst (λ r. Q (onward step (step s)) r) (sym (run-is other measure falls′ unended s)) (now (abreast s) (λ t k. step-by-step n t k)))
+        where
+          both : (o : Turn S R) → Holds (λ t. measure t < measure s) (λ r. Unit {0}) o → ((t : S) → measure t < n → Q (run step measure unended t) (run other measure unended t)) → Q (onward step o) (onward other o)
+          both (more t) k ih = ih t (omega arith)
+          both (stop r) k ih = same r
+
+          now : Abreast (step s) (other s) → ((t : S) → measure t < n → Q (run step measure unended t) (run other measure unended t)) → Q (onward step (step s)) (onward other (other s))
+          now (inl e) ih = subst (λ o. Q (onward step (step s)) (onward other o)) e (both (step s) (falls s) ih)
+          now (inr q) ih = q
+
+      -- where each step of the one is the other's, or what comes of the two steps is related, so is what comes of the loops
+      pub run-abreast : (s : S) → Q (run step measure unended s) (run other measure unended s)
+      run-abreast s = step-by-step (suc (measure s)) s (omega arith)

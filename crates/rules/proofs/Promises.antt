@@ -141,7 +141,7 @@ module _ (a : Asked) (clues : List Clue) (y : Accepted a clues) where
   z = puzzleOf a clues
 
   -- its bytes say what the rules have come to
-  result-same : (o : Outcome) → Promise z (limitsOf a) (a .k) (a .cells) (ofOutcome (a .cells) o) → ofAnswer a (answerOf a o) ≡ ofOutcome (a .cells) o
+  pub result-same : (o : Outcome) → Promise z (limitsOf a) (a .k) (a .cells) (ofOutcome (a .cells) o) → ofAnswer a (answerOf a o) ≡ ofOutcome (a .cells) o
   unfolding parts written
   result-same (solvedAs b) h = refl
   result-same (listed b s) h = ap (λ (l : List Board). record { number = 2; board = b; grids = l; steps = steps s; limit = s .limit })
@@ -169,5 +169,5 @@ pub solve-promised : (a : Asked) → Promised a (solve a)
 solve-promised a = record {
   promise = λ clues y. subst (λ r. Promise (puzzleOf a clues) (limitsOf a) (a .k) (a .cells) (ofAnswer a r)) (sym (accepted-searched a clues y)) (searched-promise a clues y);
   any-order = λ clues y b c e h. any-order (puzzleOf a clues) b c e h;
-  most-steps = solve-cases a (λ r. r .steps ≤ a .budget + (a .mostDepth + 2) * 787_456) (λ n. omega arith) (searched-steps a);
+  most-steps = solve-cases a (λ r. r .steps ≤ a .budget + (a .mostDepth + 2) * 787_456) (λ n _. omega arith) (searched-steps a);
 }

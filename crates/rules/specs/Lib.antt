@@ -14,4 +14,5 @@ pub mod Guesses
 pub mod Search
 pub mod Answers
 pub mod Promises
+pub mod Longer
 pub mod Examples
