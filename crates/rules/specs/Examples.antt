@@ -12,3 +12,4 @@ pub mod Guesses
 pub mod Search
 pub mod Answers
 pub mod Promises
+pub mod Longer

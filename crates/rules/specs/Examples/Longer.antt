@@ -1,0 +1,122 @@
+-- Longer runs at work: a list that grows, an empty list that is a dead end, and a list at depth 1 that does not begin with the list at depth 0.
+use mathlib.Core.Path.{_≡_, refl, sym, ap, _∙_}
+use mathlib.Core.List.{List, [], _∷_, _++_}
+use Prim.Native.Nat.{ℕ}
+use native.Mathlib.Omega.{arith}
+use lib.ListN.{getD, replicate}
+use Rattle.rules.specs.Boards.{Board}
+use Rattle.rules.specs.Answers.{Asked, solve}
+use Rattle.rules.specs.Promises.{Result, parts}
+use Rattle.rules.specs.Longer.{rerun, Report, report, Adds}
+use Rattle.rules.specs.Examples.Computed.{computed}
+
+-- what is given back for an input
+abbrev given : Asked → Report
+given a = report a (solve a)
+
+abbrev listed : Board → List Board → ℕ → ℕ → ℕ → Report
+listed board grids steps deepest limit = record { result = record { number = 2; board = board; grids = grids; steps = steps; limit = limit }; deepest = deepest }
+
+-- ## Twin, 2 by 2, each line one block of 1, with a budget of one step
+
+abbrev twin : Asked
+twin = record { w = 2; h = 2; k = 1; mostGrids = 4; mostDepth = 15; budget = 1; clues = replicate 12 1; cells = replicate 4 3; list = replicate 16 9 }
+
+abbrev first : Board
+first = 1 ∷ 2 ∷ 2 ∷ 1 ∷ []
+
+abbrev second : Board
+second = 2 ∷ 1 ∷ 1 ∷ 2 ∷ []
+
+one-step : given twin ≡ listed (replicate 4 3) (first ∷ []) 1 1 2
+unfolding computed parts
+one-step = refl
+
+-- with two steps a grid comes behind; with a hundred no limit is met, and with more of everything all is the same
+two-steps : given (rerun twin 4 2 (replicate 20 7)) ≡ listed (replicate 4 3) (first ∷ second ∷ []) 2 1 2
+unfolding computed parts
+two-steps = refl
+
+hundred-steps : given (rerun twin 4 100 (replicate 16 9)) ≡ listed (replicate 4 3) (first ∷ second ∷ []) 8 1 0
+unfolding computed parts
+hundred-steps = refl
+
+more-of-all : given (rerun twin 5 1_000 (replicate 20 7)) ≡ listed (replicate 4 3) (first ∷ second ∷ []) 8 1 0
+unfolding computed parts
+more-of-all = refl
+
+-- ## 3 by 3, a row given as 2,2,1 although its block is one cell long: with no steps an empty list, and with one step a dead end
+
+abbrev misread : Asked
+misread = record {
+  w = 3;
+  h = 3;
+  k = 1;
+  mostGrids = 2;
+  mostDepth = 15;
+  budget = 0;
+  clues = 1 ∷ 1 ∷ 2 ∷ 1 ∷ 1 ∷ 1 ∷ 1 ∷ 1 ∷ 2 ∷ 1 ∷ 1 ∷ 2 ∷ 1 ∷ 1 ∷ 3 ∷ 1 ∷ 1 ∷ 1 ∷ [];
+  cells = 3 ∷ 3 ∷ 3 ∷ 2 ∷ 2 ∷ 1 ∷ 3 ∷ 3 ∷ 3 ∷ [];
+  list = replicate 18 9;
+}
+
+empty-list : given misread ≡ listed (3 ∷ 2 ∷ 3 ∷ 2 ∷ 2 ∷ 1 ∷ 3 ∷ 2 ∷ 3 ∷ []) [] 0 0 2
+unfolding computed parts
+empty-list = refl
+
+dead-end : given (rerun misread 2 1 (replicate 18 9)) ≡ record { result = record { number = 3; board = misread .cells; grids = []; steps = 3; limit = 0 }; deepest = 1 }
+unfolding computed parts
+dead-end = refl
+
+-- ## 5 by 2, rows 1 1 and 1, columns 1, none, 1, none, 1
+
+abbrev wide : ℕ → Asked
+wide depth = record {
+  w = 5;
+  h = 2;
+  k = 1;
+  mostGrids = 2;
+  mostDepth = depth;
+  budget = 1_000;
+  clues = 2 ∷ 1 ∷ 1 ∷ 1 ∷ 1 ∷ 1 ∷ 1 ∷ 1 ∷ 1 ∷ 1 ∷ 1 ∷ 0 ∷ 1 ∷ 1 ∷ 1 ∷ 0 ∷ 1 ∷ 1 ∷ 1 ∷ [];
+  cells = replicate 10 3;
+  list = replicate 20 9;
+}
+
+-- what is left open before the first guess, and its three grids
+abbrev left : Board
+left = 3 ∷ 1 ∷ 3 ∷ 1 ∷ 3 ∷ 3 ∷ 1 ∷ 3 ∷ 1 ∷ 3 ∷ []
+
+abbrev middle : Board
+middle = 2 ∷ 1 ∷ 1 ∷ 1 ∷ 2 ∷ 1 ∷ 1 ∷ 2 ∷ 1 ∷ 1 ∷ []
+
+abbrev leftmost : Board
+leftmost = 1 ∷ 1 ∷ 2 ∷ 1 ∷ 2 ∷ 2 ∷ 1 ∷ 1 ∷ 1 ∷ 1 ∷ []
+
+abbrev rightmost : Board
+rightmost = 2 ∷ 1 ∷ 2 ∷ 1 ∷ 1 ∷ 1 ∷ 1 ∷ 1 ∷ 1 ∷ 2 ∷ []
+
+-- at depth 1 twenty steps are enough for all three; depth is the first limit met, and stays so with more steps
+twenty-steps : given (rerun (wide 1) 4 20 (replicate 40 9)) ≡ listed left (middle ∷ leftmost ∷ rightmost ∷ []) 20 2 3
+unfolding computed parts
+twenty-steps = refl
+
+thousand-steps : given (rerun (wide 1) 4 1_000 (replicate 40 9)) ≡ listed left (middle ∷ leftmost ∷ rightmost ∷ []) 80 2 3
+unfolding computed parts
+thousand-steps = refl
+
+-- at depth 0 the second guess is cut short, and a later one's grid comes second
+shallow : given (wide 0) ≡ listed left (middle ∷ rightmost ∷ []) 3 1 3
+unfolding computed parts
+shallow = refl
+
+deep : given (wide 1) ≡ listed left (middle ∷ leftmost ∷ []) 13 2 1
+unfolding computed parts
+deep = refl
+
+-- so a deeper run does not only add
+deeper-alters : Adds (given (wide 0)) (given (wide 1)) → ⊥
+deeper-alters h =
+    let r = h .grids-begin in
+    let n : _≡_ {A = ℕ} 1 2 = ap (λ (q : Report). getD (getD (q .result .grids) 1 []) 0 0) (sym deep) ∙ ap (λ (l : List Board). getD (getD l 1 []) 0 0) (r .1 ∙ ap (λ (q : Report). q .result .grids ++ r .0) shallow) in
+    omega arith
