@@ -14,7 +14,7 @@ use oracle::puzzle::Puzzle;
 use pairs::{pair, Pair, MOST_GRIDS};
 use std::time::Instant;
 
-/// Where so many pairs are run, each way and each of the counts beside must have been seen so often.
+/// Where so many pairs are run or more, each count must have come to `LEAST_SEEN`.
 const MANY_PAIRS: usize = 50_000;
 const LEAST_SEEN: usize = 20;
 
@@ -130,7 +130,7 @@ pub fn run(seed: u64, count: usize) -> Result<(), String> {
     }
     summary(seed, count, &counts, faults.len());
     println!("{damages} damaged pairs were refused, each in the right words");
-    println!("a larger depth was refused: at depth 1 a puzzle of 5x2 cells has another second grid than at depth 0");
+    println!("a larger depth was refused: a puzzle of 5x2 cells has another list at depth 1 than at depth 0");
     eprintln!("{} seconds", begun.elapsed().as_secs());
     no_fault(count, &faults)?;
     all_seen(count, &counts)

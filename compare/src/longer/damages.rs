@@ -69,8 +69,8 @@ pub fn all_refused(seed: u64) -> Result<usize, String> {
     Err(format!("no pair was found for: {}", missed.join(", ")))
 }
 
-/// The puzzle of 5 by 2 cells with rows 1 1 and 1 and columns 1, none, 1, none, 1 stores other grids
-/// at depth 1 than at depth 0. Nothing is claimed for depth, and the judge sees why.
+/// The puzzle of 5 by 2 cells with rows 1 1 and 1 and columns 1, none, 1, none, 1 has another second
+/// grid at depth 1 than at depth 0. Nothing is claimed for depth, and the judge must see why.
 pub fn depth_refused() -> Result<(), String> {
     let one = || vec![(1, 1)];
     let clues = [
@@ -119,7 +119,7 @@ const ALTERED: [(&str, Act); 6] = [
 ];
 
 /// Damages of one claim each.
-const SINGLE: [(&str, Claim, Fits, Act); 17] = [
+const SINGLE: [(&str, Claim, Fits, Act); 18] = [
     ("the shorter run refused", Claim::Accepted, met, |runs| {
         runs.shorter.answer.number = 13
     }),
@@ -127,16 +127,22 @@ const SINGLE: [(&str, Claim, Fits, Act); 17] = [
         runs.longer.answer.number = 13
     }),
     (
-        "a byte written after the shorter list",
+        "a byte written after the grids",
         Claim::Stored,
-        |runs| has_room(&runs.shorter),
+        |runs| stored(runs, 1) && has_room(&runs.shorter),
         |runs| write_last(&mut runs.shorter),
     ),
     (
-        "a byte written after the longer list",
+        "a byte written with no grid stored",
         Claim::Stored,
-        |runs| has_room(&runs.longer),
+        |runs| runs.longer.answer.grids == 0 && has_room(&runs.longer),
         |runs| write_last(&mut runs.longer),
+    ),
+    (
+        "a grid counted after a dead end",
+        Claim::Stored,
+        |runs| runs.longer.answer.number == DEAD_END,
+        |runs| runs.longer.answer.grids += 1,
     ),
     (
         "a grid counted and not stored",

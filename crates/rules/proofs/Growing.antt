@@ -80,10 +80,10 @@ module _ (z : Puzzle) (l : Limits) where
   -- ## A node, over guesses that grow, against the board and the run that it began with
 
   module _ (try : Board → Cell → Colour → Run → Tried) (d : ℕ) (guessGrows : GuessGrows try) (b₀ : Board) (s₀ : Run) where
-    abbrev pub NodeLater : Node → Type 0
+    abbrev NodeLater : Node → Type 0
     NodeLater (node b gs p made s) = (b ⊑ b₀) × Later s₀ s
 
-    abbrev pub SpentLater : Spent → Type 0
+    abbrev SpentLater : Spent → Type 0
     SpentLater (spent b p made s) = (b ⊑ b₀) × Later s₀ s
 
     abbrev pub PassLater : Pass → Type 0
@@ -160,7 +160,7 @@ module _ (z : Puzzle) (l : Limits) where
     afterPass-later (over e) i = i
     afterPass-later (ranOut t) i = refill-later t i
 
-  pub node-grows : (try : Board → Cell → Colour → Run → Tried) (d : ℕ) → GuessGrows try → SearchGrows (nodeFrom z l try d)
+  node-grows : (try : Board → Cell → Colour → Run → Tried) (d : ℕ) → GuessGrows try → SearchGrows (nodeFrom z l try d)
   unfolding nodeFrom
   node-grows try d g b gs s = afterPass-later try d g b s (pass z l try d (node b gs false [] s)) (pass-later try d g b s (node b gs false [] s) (⊑-refl b, later-refl s))
 

@@ -15,11 +15,12 @@ use Rattle.rules.specs.Search.{Limits, dead, notDead, Left, left, Outcom
 use Rattle.rules.specs.Answers.{Asked, Answer, answerOf, solve}
 use Rattle.rules.specs.Promises.{_⊑_, Promise, ofOutcome, Accepted, puzzleOf, limitsOf}
 use Rattle.rules.specs.Longer.{rerun, Report, report, Adds}
+use Rattle.rules.proofs.Tests.{on-tests}
 use Rattle.rules.proofs.Narrowing.{⊑-refl}
 use Rattle.rules.proofs.Fitting.{Playable}
 use Rattle.rules.proofs.Accepting.{answered-accepted, accepted-searched, accepted-playable, accepted-room}
 use Rattle.rules.proofs.Promises.{run-promise, dead-stores-none, result-same}
-use Rattle.rules.proofs.Parting.{Raised, on-tests, Parted, LeftBeside, search-beside}
+use Rattle.rules.proofs.Parting.{Raised, Parted, LeftBeside, search-beside}
 
 -- ## Two runs of the rules
 

@@ -19,7 +19,7 @@ use Rattle.rules.specs.Probing.{guessed, Run, steps, event, CellQueue, s
 use Rattle.rules.specs.Guesses.{Guess, guess, choose}
 use Rattle.rules.specs.Search.{Limits, dead, notDead, Left, left, Tried, tried, Node, node, Spent, spent, Pass, over, ranOut, deeper, firstOf, note, store, anyClosed, firstUnsolved, met, lone, afterGuess, passStep, passMeasure, passUnended, pass, again, spentStep, spentMeasure, spentUnended, refill, afterPass, nodeFrom, ended, guessDeeper, guessProbed, guessAsk, guessSet, tryGuess, search}
 use Rattle.rules.specs.Promises.{_⊑_}
-use Rattle.rules.proofs.Tests.{by-test, clash}
+use Rattle.rules.proofs.Tests.{on-tests, by-test, clash}
 use Rattle.rules.proofs.Loops.{onward, Abreast, run-abreast}
 use Rattle.rules.proofs.Narrowing.{⊑-refl, ⊑-trans}
 use Rattle.rules.proofs.Ends.{pass-falls, pass-turn, spent-falls, refill-turn}
@@ -31,11 +31,6 @@ pub record Raised (l m : Limits) : Type 0 where
   pub depth-same : m .mostDepth ≡ l .mostDepth
   pub grids-up : l .mostGrids ≤ m .mostGrids
   pub budget-up : l .budget ≤ m .budget
-
--- one test on both sides
-pub on-tests : {A : Type 0} (P : A → A → Type 0) (v : Bool) {a b c e : A} → P a c → P b e → P (elim v [ true ↦ a | false ↦ b ]) (elim v [ true ↦ c | false ↦ e ])
-on-tests P true p q = p
-on-tests P false p q = q
 
 -- where a pass stands at its end, whether it ends its node or not
 abbrev standing : Pass → Left
@@ -80,17 +75,14 @@ module _ (z : Puzzle) (l m : Limits) (raised : Raised l m) where
   -- what is asked in both runs: the same, or the shorter one meets a limit and the longer one does what it does
   on-met : {A : Type 0} (P : A → A → Type 0) (s : Run) (d : ℕ) {a b : A} {f : ℕ → A} → ((n : ℕ) → P (f n) (f n)) → P a b →
       (Halted s → (n : ℕ) → n < 2 → P (f n) (elim (met z m s d) [ zero ↦ b | suc k ↦ f k ])) → P (elim (met z l s d) [ zero ↦ a | suc k ↦ f k ]) (elim (met z m s d) [ zero ↦ b | suc k ↦ f k ])
-  on-met {A} P s d {a} {b} {f} same go-on halt = elim (met-alike s d) [ inl e ↦ both (met z l s d) (met z m s d) e | inr h ↦ let r = met-halted s d h in stopped (met z l s d) (r .0) (r .1) (halt h (r .0) (r .2)) ]
+  on-met {A} P s d {a} {b} {f} same go-on halt = elim (met-alike s d) [
+    | inl e ↦ subst (λ u. P (elim (met z l s d) [ zero ↦ a | suc k ↦ f k ]) (elim u [ zero ↦ b | suc k ↦ f k ])) e (one (met z l s d))
+    | inr h ↦ let r = met-halted s d h in subst (λ u. P (elim u [ zero ↦ a | suc k ↦ f k ]) (elim (met z m s d) [ zero ↦ b | suc k ↦ f k ])) (sym (r .1)) (halt h (r .0) (r .2))
+  ]
     where
       one : (u : ℕ) → P (elim u [ zero ↦ a | suc k ↦ f k ]) (elim u [ zero ↦ b | suc k ↦ f k ])
       one zero = go-on
       one (suc n) = same n
-
-      both : (u v : ℕ) → u ≡ v → P (elim u [ zero ↦ a | suc k ↦ f k ]) (elim v [ zero ↦ b | suc k ↦ f k ])
-      both u v e = subst (λ w. P (elim u [ zero ↦ a | suc k ↦ f k ]) (elim w [ zero ↦ b | suc k ↦ f k ])) e (one u)
-
-      stopped : (u n : ℕ) → u ≡ suc n → P (f n) (elim (met z m s d) [ zero ↦ b | suc k ↦ f k ]) → P (elim u [ zero ↦ a | suc k ↦ f k ]) (elim (met z m s d) [ zero ↦ b | suc k ↦ f k ])
-      stopped u n e h = subst (λ v. P (elim v [ zero ↦ a | suc k ↦ f k ]) (elim (met z m s d) [ zero ↦ b | suc k ↦ f k ])) (sym e) h
 
   -- ## Parted runs
 
@@ -116,16 +108,16 @@ module _ (z : Puzzle) (l m : Limits) (raised : Raised l m) where
   parted-on p i = record { halted = p .halted; noted = p .noted; later = later-trans (p .later) i }
 
   -- guesses, and nodes, whose runs have parted: the shorter one has ended "not dead", and the longer one's board is a narrowing of its board
-  abbrev pub TriedParted : Tried → Tried → Type 0
+  abbrev TriedParted : Tried → Tried → Type 0
   TriedParted (tried dead s) r = ⊥
   TriedParted (tried notDead s) (tried e t) = Parted s t
 
-  abbrev pub LeftParted : Left → Left → Type 0
+  abbrev LeftParted : Left → Left → Type 0
   LeftParted (left dead b s) r = ⊥
   LeftParted (left notDead b s) (left e a t) = (a ⊑ b) × Parted s t
 
   -- the two are one, or they have parted
-  abbrev pub TriedBeside : Tried → Tried → Type 0
+  abbrev TriedBeside : Tried → Tried → Type 0
   TriedBeside r q = (r ≡ q) ⊎ TriedParted r q
 
   abbrev pub LeftBeside : Left → Left → Type 0
@@ -134,10 +126,10 @@ module _ (z : Puzzle) (l m : Limits) (raised : Raised l m) where
   abbrev PassBeside : Pass → Pass → Type 0
   PassBeside r q = (r ≡ q) ⊎ LeftParted (standing r) (standing q)
 
-  abbrev pub GuessBeside : (try try′ : Board → Cell → Colour → Run → Tried) → Type 0
+  abbrev GuessBeside : (try try′ : Board → Cell → Colour → Run → Tried) → Type 0
   GuessBeside try try′ = (b : Board) (c : Cell) (x : Colour) (s : Run) → TriedBeside (try b c x s) (try′ b c x s)
 
-  abbrev pub SearchBeside : (deep deep′ : Board → List Guess → Run → Left) → Type 0
+  abbrev SearchBeside : (deep deep′ : Board → List Guess → Run → Left) → Type 0
   SearchBeside deep deep′ = (b : Board) (gs : List Guess) (s : Run) → LeftBeside (deep b gs s) (deep′ b gs s)
 
   -- at a limit of the shorter run alone, and on from there

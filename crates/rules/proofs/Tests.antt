@@ -28,6 +28,11 @@ by-test false f g = g refl
 pub by-equal : {P : Type 0} (a b : ℕ) → (a ≡ b → P) → (a ≢ b → P) → P
 by-equal a b f g = by-test (eqb a b) (λ e. f (eqb-true a b e)) (λ e. g (eqb-false a b e))
 
+-- and for a fact of two things, with one test in both
+pub on-tests : {A : Type 0} (P : A → A → Type 0) (v : Bool) {a b c e : A} → P a c → P b e → P (elim v [ true ↦ a | false ↦ b ]) (elim v [ true ↦ c | false ↦ e ])
+on-tests P true p q = p
+on-tests P false p q = q
+
 -- a test that passes, and the other case is not taken
 pub passed : {A : Type 0} {v : Bool} {a : A} (b : A) → v ≡ true → (elim v as (λ _. A) [ true ↦ a | false ↦ b ]) ≡ a
 passed {A} {v} {a} b e = ap (λ u. elim u as (λ _. A) [ true ↦ a | false ↦ b ]) e

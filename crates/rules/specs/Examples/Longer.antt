@@ -6,7 +6,7 @@ use native.Mathlib.Omega.{arith}
 use lib.ListN.{getD, replicate}
 use Rattle.rules.specs.Boards.{Board}
 use Rattle.rules.specs.Answers.{Asked, solve}
-use Rattle.rules.specs.Promises.{Result, parts}
+use Rattle.rules.specs.Promises.{parts}
 use Rattle.rules.specs.Longer.{rerun, Report, report, Adds}
 use Rattle.rules.specs.Examples.Computed.{computed}
 
