@@ -9,14 +9,14 @@ use Rattle.belutharin.specs.Answers.{asked, answer}
 use Rattle.belutharin.specs.declared.answers.Answer.{Answer}
 
 -- the puzzle and the most depth of both calls; the limits and the list of the first, and of the second
-module _ (w h k depth : ℕ) (clues cells : List ℕ) (grids budget : ℕ) (list : List ℕ) (more longer : ℕ) (other : List ℕ) where
+module _ (w h k depth : ℕ) (clues cells : List ℕ) (grids budget : ℕ) (list : List ℕ) (grids′ budget′ : ℕ) (list′ : List ℕ) where
   abbrev first : Asked
   first = asked w h k grids depth budget clues cells list
 
   abbrev second : Asked
-  second = asked w h k more depth longer clues cells other
+  second = asked w h k grids′ depth budget′ clues cells list′
 
   -- TWO CALLS: of what the contract of `solve` allows for each, where neither is refused
-  pub two-calls : grids ≤ more → budget ≤ longer → (r q : Answer) (cells₁ list₁ cells₂ list₂ : List ℕ) → answer r cells₁ list₁ ≡ solve first → answer q cells₂ list₂ ≡ solve second →
-      r .number ≤ 3 → q .number ≤ 3 → Adds (report first (answer r cells₁ list₁)) (report second (answer q cells₂ list₂))
-  two-calls g s r q cells₁ list₁ cells₂ list₂ = calls-add first more longer other g s (answer r cells₁ list₁) (answer q cells₂ list₂)
+  pub two-calls : grids ≤ grids′ → budget ≤ budget′ → (r r′ : Answer) (out out′ written written′ : List ℕ) → answer r out written ≡ solve first → answer r′ out′ written′ ≡ solve second →
+      r .number ≤ 3 → r′ .number ≤ 3 → Adds (report first (answer r out written)) (report second (answer r′ out′ written′))
+  two-calls g s r r′ out out′ written written′ = calls-add first grids′ budget′ list′ g s (answer r out written) (answer r′ out′ written′)

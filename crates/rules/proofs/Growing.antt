@@ -22,7 +22,7 @@ use Rattle.rules.proofs.Runs.{store-adds}
 
 -- ## Runs
 
--- The run t is s, or has come of it.
+-- The run t has the grids of s in front, and no fewer steps; it is no less deep, and a first limit of depth stays.
 pub record Later (s t : Run) : Type 0 where
   pub new : List Board
   pub stored-more : t .stored ≡ s .stored ++ new

@@ -25,7 +25,7 @@ rerun a grids budget list = record {
 
 -- ## What is given back
 
--- the number, the board, the grids in their order, the steps, the first limit met, and the deepest
+-- The number, the board, the grids of the list in their order, the steps, the first limit met, and the deepest. After a solved answer the board is the grid, and the list has none.
 pub record Report : Type 0 where
   pub result : Result
   pub deepest : ℕ

@@ -1,4 +1,4 @@
--- Longer runs at work: a list that grows, an empty list that is a dead end, and a list at depth 1 that does not begin with the list at depth 0.
+-- Longer runs at work: a list that grows, an empty list that becomes a dead end, and a list at depth 1 that does not begin with the list at depth 0.
 use mathlib.Core.Path.{_≡_, refl, sym, ap, _∙_}
 use mathlib.Core.List.{List, [], _∷_, _++_}
 use Prim.Native.Nat.{ℕ}
@@ -45,7 +45,7 @@ more-of-all : given (rerun twin 5 1_000 (replicate 20 7)) ≡ listed (replicate 
 unfolding computed parts
 more-of-all = refl
 
--- ## 3 by 3, a row given as 2,2,1 although its block is one cell long: with no steps an empty list, and with one step a dead end
+-- ## 3 by 3, a row given as 2,2,1 although its block is one cell long: with a budget of 0 an empty list, and with a budget of 1 a dead end
 
 abbrev misread : Asked
 misread = record {
@@ -105,7 +105,7 @@ thousand-steps : given (rerun (wide 1) 4 1_000 (replicate 40 9)) ≡ listed left
 unfolding computed parts
 thousand-steps = refl
 
--- at depth 0 the second guess is cut short, and a later one's grid comes second
+-- at depth 0 another grid comes second than at depth 1
 shallow : given (wide 0) ≡ listed left (middle ∷ rightmost ∷ []) 3 1 3
 unfolding computed parts
 shallow = refl
