@@ -129,8 +129,8 @@ pub fn run(seed: u64, count: usize) -> Result<(), String> {
         });
     }
     summary(seed, count, &counts, faults.len());
-    println!("{damages} damaged pairs were refused, each in the right words");
-    println!("a larger depth was refused: a puzzle of 5x2 cells has another list at depth 1 than at depth 0");
+    println!("{damages} damaged pairs: the judge saw each, and said which claim it breaks");
+    println!("and it saw that a larger depth alters a list: that of a puzzle of 5x2 cells, at depth 0 and at depth 1");
     eprintln!("{} seconds", begun.elapsed().as_secs());
     no_fault(count, &faults)?;
     all_seen(count, &counts)
@@ -189,7 +189,7 @@ fn all_seen(count: usize, counts: &Counts) -> Result<(), String> {
 
 fn summary(seed: u64, count: usize, counts: &Counts, faults: usize) {
     println!(
-        "seed {seed}, {count} pairs, {faults} faults: where a longer run alters what a shorter one gave"
+        "seed {seed}, {count} pairs, {faults} in which a longer run alters what a shorter one gave"
     );
     for (at, (name, number)) in counts.named().enumerate() {
         if at == WAYS.len() {

@@ -6,9 +6,11 @@ pub const SOLVED: u8 = 1;
 pub const LISTED: u8 = 2;
 pub const DEAD_END: u8 = 3;
 
-/// What two runs of one puzzle at one depth leave behind; no limit of the longer one is lower.
+/// The board that was given, and what two runs of one puzzle at one depth leave behind; no limit of
+/// the longer one is lower.
 #[derive(Clone)]
 pub struct Runs {
+    pub given: Vec<u8>,
     pub shorter: Outcome,
     pub longer: Outcome,
 }
@@ -18,6 +20,7 @@ pub struct Runs {
 pub enum Claim {
     Accepted,
     Stored,
+    Untouched,
     Solved,
     DeadEnd,
     Listed,
@@ -29,9 +32,10 @@ pub enum Claim {
     DepthLimit,
 }
 
-const CLAIMS: [Claim; 11] = [
+const CLAIMS: [Claim; 12] = [
     Claim::Accepted,
     Claim::Stored,
+    Claim::Untouched,
     Claim::Solved,
     Claim::DeadEnd,
     Claim::Listed,
@@ -49,6 +53,7 @@ impl Claim {
         match self {
             Self::Accepted => "an accepted input was refused",
             Self::Stored => "a list does not hold the grids counted, or was written after them",
+            Self::Untouched => "a dead end left another board than was given",
             Self::Solved => "a solved answer did not stay as it was",
             Self::DeadEnd => "a dead end did not stay as it was",
             Self::Listed => "after a list came neither a list nor, with no grid stored, a dead end",
@@ -61,11 +66,17 @@ impl Claim {
         }
     }
 
-    fn holds(self, Runs { shorter, longer }: &Runs) -> bool {
+    fn holds(self, runs: &Runs) -> bool {
+        let Runs {
+            shorter, longer, ..
+        } = runs;
         let (before, after) = (shorter.answer, longer.answer);
         match self {
             Self::Accepted => is_answer(before.number) && is_answer(after.number),
             Self::Stored => holds_its_grids(shorter) && holds_its_grids(longer),
+            Self::Untouched => [shorter, longer]
+                .iter()
+                .all(|run| run.answer.number != DEAD_END || run.cells == runs.given),
             Self::Solved => before.number != SOLVED || same(shorter, longer),
             Self::DeadEnd => before.number != DEAD_END || same(shorter, longer),
             Self::Listed => match after.number {
@@ -152,7 +163,11 @@ pub fn judge(runs: &Runs) -> Result<Way, String> {
 }
 
 /// The way of runs that keep the claims.
-fn way(Runs { shorter, longer }: &Runs) -> Way {
+fn way(
+    Runs {
+        shorter, longer, ..
+    }: &Runs,
+) -> Way {
     let (before, after) = (shorter.answer, longer.answer);
     match before.number {
         SOLVED => Way::Solved,

@@ -85,6 +85,7 @@ pub fn depth_refused() -> Result<(), String> {
     let puzzle = Puzzle::new(5, 2, 1, &clues, vec![3; 10]);
     let run = |depth| library::run(&puzzle.clone().with_limits(2, depth, 1_000));
     let runs = Runs {
+        given: puzzle.cells.clone(),
         shorter: run(0)?,
         longer: run(1)?,
     };
@@ -119,7 +120,7 @@ const ALTERED: [(&str, Act); 6] = [
 ];
 
 /// Damages of one claim each.
-const SINGLE: [(&str, Claim, Fits, Act); 18] = [
+const SINGLE: [(&str, Claim, Fits, Act); 19] = [
     ("the shorter run refused", Claim::Accepted, met, |runs| {
         runs.shorter.answer.number = 13
     }),
@@ -149,6 +150,12 @@ const SINGLE: [(&str, Claim, Fits, Act); 18] = [
         Claim::Stored,
         |runs| both_listed(runs) && has_room(&runs.longer),
         |runs| runs.longer.answer.grids += 1,
+    ),
+    (
+        "another board at a dead end after an empty list",
+        Claim::Untouched,
+        |runs| runs.shorter.answer.number == LISTED && runs.longer.answer.number == DEAD_END,
+        |runs| alter(&mut runs.longer.cells[0]),
     ),
     (
         "a dead end after grids",

@@ -45,6 +45,7 @@ impl Pair {
     /// Runs both by the library. An error says which byte was written that was not lent to be.
     pub fn runs(&self) -> Result<Runs, String> {
         Ok(Runs {
+            given: self.shorter.cells.clone(),
             shorter: library::run(&self.shorter)?,
             longer: library::run(&self.longer())?,
         })
@@ -109,8 +110,8 @@ fn puzzle(random: &mut Random) -> Puzzle {
     puzzle.with_limits(MOST_GRIDS, depth, BUDGET)
 }
 
-/// The largest budget to be drawn. It is a large one only where the whole search has not met this
-/// one, since it takes no longer then.
+/// The largest budget to be drawn: a large one only where the whole search ended within this one,
+/// since it takes no longer then.
 fn largest_budget(random: &mut Random, whole: Answer, budget: u64) -> u64 {
     if whole.steps < budget {
         random.pick(&[budget, 1_000_000, MOST_BUDGET])
