@@ -19,7 +19,7 @@ tidy:
 oracle:
 	@tools/oracle
 
-# With a mend taken out of rules and code alike, laws of the promise fail in the rules themselves, and its opposite is proved; with a wrong limit put in, it is proved that a longer run does not only add.
+# With a mend taken out of rules and code alike, laws of the promise fail in the rules themselves, and its opposite is proved; with each of three edits of the rules, it is proved that a longer run does not only add.
 mends:
 	@tools/mends
 

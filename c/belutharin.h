@@ -59,9 +59,9 @@ enum {
  *   refusal, and after a dead end that was seen before the search began.
  * The list has all grids of the puzzle where the number is 2 and *limit is 0.
  *
- * A longer run only adds. Called again with the same puzzle and most_depth, and a larger budget, a larger most_grids or both, it gives back 1 or 3
- * if it did before, and after 2 the grids that it gave are the first of the list; where there were none, 3 may come instead. If *limit was 0, nothing
- * changes. Nothing is said of a larger most_depth. */
+ * A longer run only adds. Call it again with the same puzzle (the cells as they were given, and not as the first call left them) and the same
+ * most_depth, with a larger budget, a larger most_grids or both. If neither call is refused, 1 and 3 stay; after 2 the grids that were listed are the
+ * first of the list, and where there were none, 3 may come instead. If *limit was 0, all stays. Nothing is said of a larger most_depth. */
 uint8_t belutharin_solve(size_t w, size_t h, size_t k,
                          const uint8_t *clues, size_t clues_length,
                          uint8_t *cells, size_t cells_length,

@@ -160,8 +160,8 @@ pub(crate) fn clue_bytes(clue: &[Block]) -> Vec<u8> {
 /// ```
 ///
 /// A longer run only adds. With a larger budget, more grids or both, at the same `most_depth`, a puzzle that was solved or a dead end is so again, and the
-/// grids that were listed are the first of the list; where there were none, it may be a dead end. If no limit was met, nothing changes. Nothing is said of
-/// a larger `most_depth`.
+/// grids that were listed are the first of the list; where there were none, it may be a dead end. If no limit was met, all stays. This holds if neither
+/// run is refused, and nothing is said of a larger `most_depth`.
 ///
 /// ```
 /// use belutharin::{solve, Limits, Puzzle};
