@@ -1,4 +1,4 @@
--- Two calls of `solve` for one puzzle at one most depth, the second with no fewer grids and no fewer steps. Whatever lists are lent, what it gives back adds to what the first gave back and alters nothing.
+-- Two calls of `solve` for one puzzle at one most depth, the second with no fewer grids and no fewer steps. Whatever lists are lent, what it gives back keeps what the first gave back, and may add to it.
 use mathlib.Core.Path.{_≡_}
 use mathlib.Core.List.{List}
 use Prim.Native.Nat.{ℕ, _≤_}

@@ -36,7 +36,7 @@ report a r = record { result = ofAnswer a r; deepest = r .deepest }
 
 -- ## What is promised
 
--- What the longer run gives back, q, adds to what the shorter one gave back, r, and alters nothing of it.
+-- What the longer run gives back, q, keeps what the shorter one gave back, r, and may add to it.
 pub record Adds (r q : Report) : Type 0 where
   -- A solved answer stays, with its board and all else.
   pub solved-stays : r .result .number ≡ 1 → q ≡ r
