@@ -19,8 +19,8 @@ listed board grids steps deepest limit = record { result = record { number = 2; 
 
 -- ## Twin, 2 by 2, each line one block of 1, with a budget of one step
 
-abbrev twin : Asked
-twin = record { w = 2; h = 2; k = 1; mostGrids = 4; mostDepth = 15; budget = 1; clues = replicate 12 1; cells = replicate 4 3; list = replicate 16 9 }
+abbrev twin : ℕ → Asked
+twin depth = record { w = 2; h = 2; k = 1; mostGrids = 4; mostDepth = depth; budget = 1; clues = replicate 12 1; cells = replicate 4 3; list = replicate 16 9 }
 
 abbrev first : Board
 first = 1 ∷ 2 ∷ 2 ∷ 1 ∷ []
@@ -28,22 +28,31 @@ first = 1 ∷ 2 ∷ 2 ∷ 1 ∷ []
 abbrev second : Board
 second = 2 ∷ 1 ∷ 1 ∷ 2 ∷ []
 
-one-step : given twin ≡ listed (replicate 4 3) (first ∷ []) 1 1 2
+one-step : given (twin 15) ≡ listed (replicate 4 3) (first ∷ []) 1 1 2
 unfolding computed parts
 one-step = refl
 
 -- with two steps a grid comes behind; with a hundred no limit is met, and with more of everything all is the same
-two-steps : given (rerun twin 4 2 (replicate 20 7)) ≡ listed (replicate 4 3) (first ∷ second ∷ []) 2 1 2
+two-steps : given (rerun (twin 15) 4 2 (replicate 20 7)) ≡ listed (replicate 4 3) (first ∷ second ∷ []) 2 1 2
 unfolding computed parts
 two-steps = refl
 
-hundred-steps : given (rerun twin 4 100 (replicate 16 9)) ≡ listed (replicate 4 3) (first ∷ second ∷ []) 8 1 0
+hundred-steps : given (rerun (twin 15) 4 100 (replicate 16 9)) ≡ listed (replicate 4 3) (first ∷ second ∷ []) 8 1 0
 unfolding computed parts
 hundred-steps = refl
 
-more-of-all : given (rerun twin 5 1_000 (replicate 20 7)) ≡ listed (replicate 4 3) (first ∷ second ∷ []) 8 1 0
+more-of-all : given (rerun (twin 15) 5 1_000 (replicate 20 7)) ≡ listed (replicate 4 3) (first ∷ second ∷ []) 8 1 0
 unfolding computed parts
 more-of-all = refl
+
+-- at depth 0 that is the first limit met, with two steps, and with a hundred
+two-shallow : given (rerun (twin 0) 4 2 (replicate 16 9)) ≡ listed (replicate 4 3) (first ∷ second ∷ []) 2 1 3
+unfolding computed parts
+two-shallow = refl
+
+hundred-shallow : given (rerun (twin 0) 4 100 (replicate 16 9)) ≡ listed (replicate 4 3) (first ∷ second ∷ []) 8 1 3
+unfolding computed parts
+hundred-shallow = refl
 
 -- ## 3 by 3, a row given as 2,2,1 although its block is one cell long: with a budget of 0 an empty list, and with a budget of 1 a dead end
 
@@ -68,7 +77,7 @@ dead-end : given (rerun misread 2 1 (replicate 18 9)) ≡ record { result = reco
 unfolding computed parts
 dead-end = refl
 
--- ## 5 by 2, rows 1 1 and 1, columns 1, none, 1, none, 1
+-- ## 5 by 2, rows 1 1 and 1, columns 1, none, 1, none, 1: at depth 0 another grid comes second than at depth 1
 
 abbrev wide : ℕ → Asked
 wide depth = record {
@@ -83,34 +92,14 @@ wide depth = record {
   list = replicate 20 9;
 }
 
--- what is left open before the first guess, and its three grids
-abbrev left : Board
-left = 3 ∷ 1 ∷ 3 ∷ 1 ∷ 3 ∷ 3 ∷ 1 ∷ 3 ∷ 1 ∷ 3 ∷ []
+abbrev gridsAt : ℕ → List Board
+gridsAt depth = given (wide depth) .result .grids
 
-abbrev middle : Board
-middle = 2 ∷ 1 ∷ 1 ∷ 1 ∷ 2 ∷ 1 ∷ 1 ∷ 2 ∷ 1 ∷ 1 ∷ []
-
-abbrev leftmost : Board
-leftmost = 1 ∷ 1 ∷ 2 ∷ 1 ∷ 2 ∷ 2 ∷ 1 ∷ 1 ∷ 1 ∷ 1 ∷ []
-
-abbrev rightmost : Board
-rightmost = 2 ∷ 1 ∷ 2 ∷ 1 ∷ 1 ∷ 1 ∷ 1 ∷ 1 ∷ 1 ∷ 2 ∷ []
-
--- at depth 1 twenty steps are enough for all three; depth is the first limit met, and stays so with more steps
-twenty-steps : given (rerun (wide 1) 4 20 (replicate 40 9)) ≡ listed left (middle ∷ leftmost ∷ rightmost ∷ []) 20 2 3
-unfolding computed parts
-twenty-steps = refl
-
-thousand-steps : given (rerun (wide 1) 4 1_000 (replicate 40 9)) ≡ listed left (middle ∷ leftmost ∷ rightmost ∷ []) 80 2 3
-unfolding computed parts
-thousand-steps = refl
-
--- at depth 0 another grid comes second than at depth 1
-shallow : given (wide 0) ≡ listed left (middle ∷ rightmost ∷ []) 3 1 3
+shallow : gridsAt 0 ≡ (2 ∷ 1 ∷ 1 ∷ 1 ∷ 2 ∷ 1 ∷ 1 ∷ 2 ∷ 1 ∷ 1 ∷ []) ∷ (2 ∷ 1 ∷ 2 ∷ 1 ∷ 1 ∷ 1 ∷ 1 ∷ 1 ∷ 1 ∷ 2 ∷ []) ∷ []
 unfolding computed parts
 shallow = refl
 
-deep : given (wide 1) ≡ listed left (middle ∷ leftmost ∷ []) 13 2 1
+deep : gridsAt 1 ≡ (2 ∷ 1 ∷ 1 ∷ 1 ∷ 2 ∷ 1 ∷ 1 ∷ 2 ∷ 1 ∷ 1 ∷ []) ∷ (1 ∷ 1 ∷ 2 ∷ 1 ∷ 2 ∷ 2 ∷ 1 ∷ 1 ∷ 1 ∷ 1 ∷ []) ∷ []
 unfolding computed parts
 deep = refl
 
@@ -118,5 +107,5 @@ deep = refl
 deeper-alters : Adds (given (wide 0)) (given (wide 1)) → ⊥
 deeper-alters h =
     let r = h .grids-begin in
-    let n : _≡_ {A = ℕ} 1 2 = ap (λ (q : Report). getD (getD (q .result .grids) 1 []) 0 0) (sym deep) ∙ ap (λ (l : List Board). getD (getD l 1 []) 0 0) (r .1 ∙ ap (λ (q : Report). q .result .grids ++ r .0) shallow) in
+    let n : _≡_ {A = ℕ} 1 2 = ap (λ (l : List Board). getD (getD l 1 []) 0 0) (sym deep ∙ r .1 ∙ ap (λ l. l ++ r .0) shallow) in
     omega arith
