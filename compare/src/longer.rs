@@ -15,7 +15,7 @@ use pairs::{pair, Pair, MOST_GRIDS};
 use std::time::Instant;
 
 /// Where so many pairs are run or more, each count must have come to `LEAST_SEEN`.
-const MANY_PAIRS: usize = 50_000;
+const MANY_PAIRS: usize = 25_000;
 const LEAST_SEEN: usize = 20;
 
 /// Something that is counted beside the ways: its name, and the pairs that it is seen in.
