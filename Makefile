@@ -19,7 +19,7 @@ tidy:
 oracle:
 	@tools/oracle
 
-# With a mend taken out of rules and code alike, laws of the promise fail in the rules themselves, and its opposite is proved; with each of three edits of the rules, it is proved that a longer run does not only add.
+# With a mend taken out of rules and code alike, laws of the promise fail in the rules themselves, and its opposite is proved; with each edit of the rules that has a law beside it, a theorem of theirs is proved to be false.
 mends:
 	@tools/mends
 

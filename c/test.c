@@ -146,6 +146,18 @@ static void test_lines(void)
     same_bytes("refused lines: cells", two, open, sizeof two);
 }
 
+/* Two blocks of one cell: those of different colours may touch, those of one colour may not. */
+static void test_touching(void)
+{
+    const uint8_t two_colours[5] = {2, 1, 1, 2, 1}, one_colour[5] = {2, 1, 1, 1, 1};
+    const uint8_t side_by_side[2] = {2, 4}, parted[3] = {2, 1, 2};
+    uint8_t two[2] = {7, 7}, three[3] = {7, 7, 7};
+    same_number("two colours in two cells: number", belutharin_reduce_line(2, two_colours, sizeof two_colours, two, sizeof two), BELUTHARIN_REDUCED);
+    same_bytes("two colours in two cells: cells", two, side_by_side, sizeof two);
+    same_number("one colour in three cells: number", belutharin_reduce_line(2, one_colour, sizeof one_colour, three, sizeof three), BELUTHARIN_REDUCED);
+    same_bytes("one colour in three cells: cells", three, parted, sizeof three);
+}
+
 static uint64_t bits(double x)
 {
     uint64_t all;
@@ -202,6 +214,7 @@ int main(void)
     test_dead_end();
     test_refusals();
     test_lines();
+    test_touching();
     test_rates();
     test_grids();
     puts("c/test: every function gave back what it should");

@@ -2,7 +2,7 @@
 
 use crate::{
     library, machine,
-    set::{read, Entry, CLASSES},
+    set::{lines, read, Entry, CLASSES},
 };
 use oracle::{puzzle::Puzzle, raw, unmended};
 use std::{fmt::Write, fs, hint::black_box, path::Path, time::Instant};
@@ -131,18 +131,6 @@ fn mean(run: &dyn Fn(), turns: usize) -> f64 {
     begun.elapsed().as_secs_f64() / turns as f64
 }
 
-/// The lines of a puzzle as it is given: the bytes of each clue, and its cells.
-fn lines(puzzle: &Puzzle) -> Vec<(Vec<u8>, Vec<u8>)> {
-    let Puzzle { w, h, .. } = *puzzle;
-    let clues = puzzle.clue_list();
-    let clues = clues.iter().map(|clue| oracle::puzzle::clue_bytes(clue));
-    let row = |y: usize| puzzle.cells[y * w..(y + 1) * w].to_vec();
-    let column = |x: usize| puzzle.cells[x..].iter().step_by(w).copied().collect();
-    clues
-        .zip((0..h).map(row).chain((0..w).map(column)))
-        .collect()
-}
-
 fn reduce_all(lines: &[(Vec<u8>, Vec<u8>)], k: usize, reduce: fn(usize, &[u8], &mut [u8]) -> u8) {
     let mut lent = [0; 16];
     for (clue, cells) in lines {
@@ -225,7 +213,7 @@ A line is one call of `reduce_line`, over the lines of the class's puzzles as th
 
 ## The puzzles
 
-They are 8×8 to 16×16 with 1 to 3 colours, made from a seed by `compare choose`. The limits are 128 grids, but 1 in the second class, a depth of 15 and 2,000 steps. Only puzzles were taken on which both
+They are 8×8 to 16×16 with 1 to 3 colours, made from a seed by `compare choose`. In each with two colours or more some line would be reduced otherwise if no two blocks might touch. The limits are 128 grids, but 1 in the second class, a depth of 15 and 2,000 steps. Only puzzles were taken on which both
 searches are the same, step by step: no mend acted, but for the one that puts the board back after a dead end. The benchmark stops if the answers differ.
 
 ## The machine

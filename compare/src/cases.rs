@@ -2,7 +2,9 @@
 
 use oracle::{
     damage::DAMAGES,
-    generate::{any_kind, any_limits, clue_of_line, edit, limited, sparse, Random},
+    generate::{
+        any_kind, any_limits, clue_of_line, edit, limited, random_grid, sparse, Random,
+    },
     mended,
     puzzle::{clue_bytes, Puzzle},
 };
@@ -210,14 +212,7 @@ fn line(random: &mut Random) -> Case {
     let length = random.between(1, 16);
     let all = (1 << (k + 1)) - 1;
     let filled = random.pick(&[20, 50, 80]);
-    let mut colours = vec![0; length];
-    for at in 0..length {
-        let before = if at > 0 { colours[at - 1] } else { 0 };
-        if random.percent(filled) {
-            let colour = random.between(1, k) as u8;
-            colours[at] = if before == 0 { colour } else { before };
-        }
-    }
+    let colours = random_grid(random, filled, length, 1, k);
     let mut clue = clue_of_line(&colours);
     if random.percent(30) {
         edit(random, &mut clue, k);

@@ -7,7 +7,7 @@ use crate::{
     shrink::{size, smallest},
 };
 use oracle::{
-    mended,
+    apart, mended,
     puzzle::{Outcome, Puzzle},
     raw, unmended,
 };
@@ -20,11 +20,30 @@ struct Counts {
     /// Searches by answer: solved, listed, dead end, refused.
     answers: [usize; 4],
     searched: usize,
+    /// Searches and lines in two colours or more that are not refused.
+    coloured: [Coloured; 2],
     /// Searches that differ from the unmended oracle, each with a mend that acted, and those in which each mend acted.
     from_unmended: usize,
     by_mend: [usize; 4],
     /// The smallest of these for each mend.
     least: [Option<Puzzle>; 4],
+}
+
+/// How many cases there are, and in how many of them it matters that blocks of different colours may touch.
+#[derive(Default)]
+struct Coloured {
+    all: usize,
+    touching: usize,
+}
+
+impl Coloured {
+    /// Counts a case that the oracle answers with this number, unless it is refused or has one colour.
+    fn count(&mut self, k: usize, number: u8, touching: impl FnOnce() -> bool) {
+        if k > 1 && number <= 3 {
+            self.all += 1;
+            self.touching += usize::from(touching());
+        }
+    }
 }
 
 /// A case on which the library is not as it should be, in words; with the puzzle where it is one.
@@ -84,11 +103,14 @@ fn compare(case: &Case, counts: &mut Counts) -> Result<(), Differs> {
     match case {
         Case::Search(puzzle) => search(puzzle, counts),
         Case::Line { k, clue, cells } => {
-            let wanted = {
+            let by = |reduce: fn(usize, &[u8], &mut [u8]) -> u8| {
                 let mut after = cells.clone();
-                let number = raw::reduce_line(*k, clue, &mut after);
-                Ok((number, after))
+                let number = reduce(*k, clue, &mut after);
+                (number, after)
             };
+            let wanted = by(raw::reduce_line);
+            counts.coloured[1].count(*k, wanted.0, || by(apart::reduce_line) != wanted);
+            let wanted = Ok(wanted);
             let got = library::reduce_line(*k, clue, cells);
             let words = || {
                 format!("line: k = {k}, clue {clue:?}, cells {cells:?}: library {got:?}, oracle {wanted:?}")
@@ -137,6 +159,9 @@ fn search(puzzle: &Puzzle, counts: &mut Counts) -> Result<(), Differs> {
     let answer = usize::from(mended.answer.number);
     counts.answers[if answer > 3 { 3 } else { answer - 1 }] += 1;
     counts.searched += usize::from(mended.searched());
+    counts.coloured[0].count(puzzle.k, mended.answer.number, || {
+        !apart::run(puzzle).differences(&mended).is_empty()
+    });
     match verdict {
         Verdict::Same => (),
         Verdict::Fault(words) => return Err((words, Some(Box::new(puzzle.clone())))),
@@ -229,6 +254,12 @@ fn summary(seed: u64, count: usize, counts: &Counts, faults: usize) {
         "searches: {} reached depth 0; {solved} solved, {listed} listed, {dead} dead ends, {refused} refused",
         counts.searched
     );
+    for (name, coloured) in ["searches", "lines"].iter().zip(&counts.coloured) {
+        println!(
+            "{name} in two colours or more: {}, of which {} are other where no two blocks may touch",
+            coloured.all, coloured.touching
+        );
+    }
     let [m1, m2, m3, m4] = counts.by_mend;
     println!(
         "{} differ from the unmended oracle, each with a mend that acted: M1 in {m1}, M2 in {m2}, M3 in {m3}, M4 in {m4}",

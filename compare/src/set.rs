@@ -1,9 +1,11 @@
 //! The benchmark's puzzles: how they were chosen, and the file that holds them.
 
 use oracle::{
+    apart,
     generate::{any_kind, edited, sparse, Kind, Random},
     mended,
-    puzzle::{Outcome, Puzzle},
+    puzzle::{clue_bytes, Outcome, Puzzle},
+    raw,
 };
 use std::{fmt::Write, fs, path::Path, str::SplitAsciiWhitespace};
 
@@ -96,7 +98,32 @@ pub struct Entry {
     pub puzzle: Puzzle,
 }
 
-/// Chooses the set and writes it: for each class puzzles from a seed, sizes and colours in turn, on which no mend changes the search.
+/// The lines of a puzzle as it is given: the bytes of each clue, and its cells.
+pub fn lines(puzzle: &Puzzle) -> Vec<(Vec<u8>, Vec<u8>)> {
+    let Puzzle { w, h, .. } = *puzzle;
+    let clues = puzzle.clue_list();
+    let clues = clues.iter().map(|clue| clue_bytes(clue));
+    let row = |y: usize| puzzle.cells[y * w..(y + 1) * w].to_vec();
+    let column = |x: usize| puzzle.cells[x..].iter().step_by(w).copied().collect();
+    clues
+        .zip((0..h).map(row).chain((0..w).map(column)))
+        .collect()
+}
+
+/// Whether some line of the puzzle, as it is given, would be reduced otherwise if no two blocks might touch.
+fn touches(puzzle: &Puzzle) -> bool {
+    let by = |reduce: fn(usize, &[u8], &mut [u8]) -> u8, clue: &[u8], cells: &[u8]| {
+        let mut after = cells.to_vec();
+        (reduce(puzzle.k, clue, &mut after), after)
+    };
+    let mut lines = lines(puzzle).into_iter();
+    lines.any(|(clue, cells)| {
+        by(raw::reduce_line, &clue, &cells) != by(apart::reduce_line, &clue, &cells)
+    })
+}
+
+/// Chooses the set and writes it: for each class puzzles from a seed, sizes and colours in turn, on which no mend changes the search, and with two
+/// colours or more those in which it matters that colours may touch.
 pub fn choose(out: &Path) -> Result<(), String> {
     let mut random = Random::new(200);
     let mut text = String::new();
@@ -126,6 +153,9 @@ fn draw(
     let mut fitting = Vec::new();
     for _ in 0..20_000 {
         let puzzle = (class.kind)(random, w, h, k).with_limits(class.most_grids, 15, BUDGET);
+        if k > 1 && !touches(&puzzle) {
+            continue;
+        }
         let run = puzzle.run(mended::solve);
         if run.answer.mends & !M4 == 0 && (class.fits)(&puzzle, &run) {
             fitting.push((solved(&run.cells), puzzle));

@@ -1,6 +1,7 @@
 //! Puzzles from a seed: random grids with their clues, edited clues, given and wrong cells, and limits of every kind.
 
 use crate::{
+    board::LONGEST_LINE,
     mended,
     puzzle::{Clue, Puzzle},
     unmended,
@@ -149,7 +150,7 @@ pub const BUDGET: u64 = 1_500;
 
 impl Recipe {
     fn puzzle(self, random: &mut Random, w: usize, h: usize, k: usize) -> Puzzle {
-        let grid = self.grid(random, w, h, k);
+        let grid = random_grid(random, self.filled, w, h, k);
         let mut clues = clues_of_grid(&grid, w, h);
         let mut cells = self.cells(random, &grid, k);
         if random.percent(self.edited) {
@@ -166,24 +167,6 @@ impl Recipe {
             }
         }
         Puzzle::new(w, h, k, &clues, cells).with_limits(128, 15, BUDGET)
-    }
-
-    /// A random grid, a colour number for each cell, in which cells of different colours do not touch.
-    fn grid(self, random: &mut Random, w: usize, h: usize, k: usize) -> Vec<u8> {
-        let mut grid = vec![0; w * h];
-        for at in 0..w * h {
-            let left = if at % w > 0 { grid[at - 1] } else { 0 };
-            let above = if at >= w { grid[at - w] } else { 0 };
-            let torn = left != above && left != 0 && above != 0;
-            if torn || !random.percent(self.filled) {
-                continue;
-            }
-            grid[at] = match left.max(above) {
-                0 => random.between(1, k) as u8,
-                colour => colour,
-            };
-        }
-        grid
     }
 
     /// The board that is given: open, partly given, solved, or wrong in places.
@@ -206,6 +189,27 @@ impl Recipe {
     }
 }
 
+/// A random grid, a colour number for each cell, of which so many of a hundred are not blank. A cell beside others mostly
+/// has a colour of theirs, and now and then any, so that colours touch. A grid of height 1 is a line.
+pub fn random_grid(random: &mut Random, filled: usize, w: usize, h: usize, k: usize) -> Vec<u8> {
+    let mut grid = vec![0; w * h];
+    for at in 0..w * h {
+        if !random.percent(filled) {
+            continue;
+        }
+        let left = if at % w > 0 { grid[at - 1] } else { 0 };
+        let above = if at >= w { grid[at - w] } else { 0 };
+        let upward = left == 0 || above != 0 && random.percent(50);
+        let beside = if upward { above } else { left };
+        grid[at] = if beside != 0 && random.percent(70) {
+            beside
+        } else {
+            random.between(1, k) as u8
+        };
+    }
+    grid
+}
+
 /// The clues of a grid, given as a colour number for each cell.
 pub fn clues_of_grid(grid: &[u8], w: usize, h: usize) -> Vec<Clue> {
     let row = |y: usize| (0..w).map(|x| grid[y * w + x]).collect();
@@ -222,9 +226,9 @@ pub fn clue_of_line(line: &[u8]) -> Clue {
         .collect()
 }
 
-/// Makes a block longer or shorter, gives it another colour, drops it, or adds one.
+/// Makes a block longer or shorter, gives it another colour, drops it, or adds one where there is room for one more.
 pub fn edit(random: &mut Random, clue: &mut Clue, k: usize) {
-    let at = random.below(clue.len() + 1);
+    let at = random.below((clue.len() + 1).min(LONGEST_LINE));
     let colour = random.between(1, k) as u8;
     if at == clue.len() {
         clue.push((colour, random.between(1, 2) as u8));
@@ -234,7 +238,7 @@ pub fn edit(random: &mut Random, clue: &mut Clue, k: usize) {
         0 => clue[at].1 = (clue[at].1 + 1).min(16),
         1 => clue[at].1 = (clue[at].1 - 1).max(1),
         2 => clue[at].0 = colour,
-        3 => clue.insert(at, (colour, 1)),
+        3 if clue.len() < LONGEST_LINE => clue.insert(at, (colour, 1)),
         _ => {
             clue.remove(at);
         }

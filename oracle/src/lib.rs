@@ -1,8 +1,8 @@
 //! The published search of nonogrid over a plain stand-in for the parts that it calls, as the judge of Belutharin.
 //!
 //! `unmended::solve` runs the files as published, `mended::solve` with the four mends of docs/RULES.md: both take bytes and give
-//! its numbers. `raw` holds what needs no search, `generate` makes puzzles from a seed, and
-//! `damage` breaks them.
+//! its numbers. `raw` holds what needs no search, `apart` runs both under another meaning of a clue, `generate`
+//! makes puzzles from a seed, and `damage` breaks them.
 
 // Both builds are read out by one file.
 #![allow(clippy::duplicate_mod)]
@@ -35,6 +35,28 @@ pub mod unmended {
 /// The search with the four mends.
 pub mod mended {
     pub use crate::solver::mended::reading::solve;
+}
+
+/// The mended search and the reduction of a line as they would be if no two blocks might touch, whatever their colours. The
+/// rules ask for nothing of the kind: beside these one sees on which inputs it matters that colours may touch.
+pub mod apart {
+    use crate::{
+        puzzle::{Outcome, Puzzle, Solve},
+        raw,
+        solver::{line::Placing, mended::reading},
+    };
+
+    const SOLVE: Solve = reading::solve_by::<Placing<false>>;
+
+    /// Reduces one line.
+    pub fn reduce_line(k: usize, clue: &[u8], cells: &mut [u8]) -> u8 {
+        raw::reduce_line_by::<Placing<false>>(k, clue, cells)
+    }
+
+    /// Runs a puzzle.
+    pub fn run(puzzle: &Puzzle) -> Outcome {
+        puzzle.run(SOLVE)
+    }
 }
 
 /// What the published files see of the environment: no variable is set, so that `LOW_PRIORITY` keeps its default.

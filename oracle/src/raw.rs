@@ -117,6 +117,15 @@ pub(crate) fn clues_of(mut bytes: &[u8]) -> Vec<Vec<ColouredBlock>> {
 
 /// Reduces one line: 1 reduced, 3 contradiction, or 12, 14, 15.
 pub fn reduce_line(k: usize, clue: &[u8], cells: &mut [u8]) -> u8 {
+    reduce_line_by::<Placing>(k, clue, cells)
+}
+
+/// The same by any line solver of the stand-in.
+pub(crate) fn reduce_line_by<S: LineSolver<BlockType = ColouredBlock>>(
+    k: usize,
+    clue: &[u8],
+    cells: &mut [u8],
+) -> u8 {
     if !is_colours(k) {
         return 12;
     }
@@ -127,7 +136,7 @@ pub fn reduce_line(k: usize, clue: &[u8], cells: &mut [u8]) -> u8 {
         return 15;
     }
     let mut line: Vec<_> = cells.iter().copied().map(Cell).collect();
-    if Placing::reduce(&clues_of(clue)[0], &mut line).is_err() {
+    if S::reduce(&clues_of(clue)[0], &mut line).is_err() {
         return 3;
     }
     for (byte, cell) in cells.iter_mut().zip(line) {

@@ -7,7 +7,7 @@ mod small;
 use std::{fs, path::Path};
 
 use oracle::{
-    mended,
+    apart, mended,
     puzzle::{Outcome, Puzzle},
     unmended,
 };
@@ -17,6 +17,8 @@ use oracle::{
 struct Row {
     numbers: Vec<u64>,
     answer: u8,
+    /// In two colours or more: whether it would come to something else if no two blocks might touch.
+    touching: Option<bool>,
 }
 
 impl Row {
@@ -79,6 +81,19 @@ fn write_file(folder: &Path, name: &str, rows: &[Row]) -> Result<(), String> {
     }
     println!("{name}: {} cases, {} bytes", rows.len(), text.len());
     println!("  by answer: {}", by_answer(rows));
+    let coloured: Vec<bool> = rows.iter().filter_map(|row| row.touching).collect();
+    if !coloured.is_empty() {
+        let touching = coloured.iter().filter(|&&touching| touching).count();
+        println!(
+            "  in two colours or more: {}, of which {touching} are other where no two blocks may touch",
+            coloured.len()
+        );
+        if touching * 3 < coloured.len() {
+            return Err(format!(
+                "too few cases of {name} show that colours may touch"
+            ));
+        }
+    }
     fs::write(folder.join(name), text).map_err(|error| error.to_string())
 }
 
@@ -122,6 +137,9 @@ fn row_of_search((puzzle, outcome): &Search) -> Result<Row, String> {
     row.list(&outcome.cells);
     row.list(&outcome.grids().concat());
     row.number(answer.mends.into());
+    if puzzle.k > 1 && answer.number <= 3 {
+        row.touching = Some(!apart::run(puzzle).differences(outcome).is_empty());
+    }
     Ok(row)
 }
 

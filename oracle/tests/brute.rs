@@ -1,56 +1,62 @@
-//! The mended search against all fitting grids, found by trying every colour of every cell in turn.
+//! The mended search against all fitting grids, found by trying every colour of every cell in turn. A grid fits if each of its
+//! lines shows its clue: the runs of equal colours other than blank are, in order, the clue's blocks.
 
 use oracle::{
     generate::{any_kind, edited, misread, searching, sparse, Kind, Random},
     mended,
-    puzzle::Puzzle,
-    raw,
+    puzzle::{Clue, Puzzle},
 };
 
 /// All fitting grids of a small puzzle, ascending.
 fn fitting(puzzle: &Puzzle) -> Vec<Vec<u8>> {
-    let clues = clues(&puzzle.clues);
     let mut grids = Vec::new();
-    extend(puzzle, &clues, &mut puzzle.cells.clone(), 0, &mut grids);
+    extend(puzzle, &puzzle.clue_list(), &mut Vec::new(), &mut grids);
     grids.sort();
     grids
 }
 
-/// The bytes of each line's clue.
-fn clues(mut bytes: &[u8]) -> Vec<&[u8]> {
-    let mut clues = Vec::new();
-    while !bytes.is_empty() {
-        let (clue, rest) = bytes.split_at(1 + 2 * usize::from(bytes[0]));
-        clues.push(clue);
-        bytes = rest;
-    }
-    clues
-}
-
-/// Adds the grids that begin with the cells before this one.
-fn extend(
-    puzzle: &Puzzle,
-    clues: &[&[u8]],
-    cells: &mut Vec<u8>,
-    at: usize,
-    grids: &mut Vec<Vec<u8>>,
-) {
+/// Adds the grids that begin with these cells.
+fn extend(puzzle: &Puzzle, clues: &[Clue], cells: &mut Vec<u8>, grids: &mut Vec<Vec<u8>>) {
     let Puzzle { w, h, k, .. } = *puzzle;
-    let fits = |clue: &[u8], mut line: Vec<u8>| raw::reduce_line(k, clue, &mut line) == 1;
-    let row = |y: usize| cells[y * w..(y + 1) * w].to_vec();
-    let column = |x: usize| cells[x..].iter().step_by(w).copied().collect();
-    if !(0..h).all(|y| fits(clues[y], row(y))) || !(0..w).all(|x| fits(clues[h + x], column(x))) {
-        return;
+    let at = cells.len();
+    if at > 0 {
+        let (x, y) = ((at - 1) % w, (at - 1) / w);
+        let column: Vec<u8> = cells[x..].iter().step_by(w).copied().collect();
+        if !shows(&cells[y * w..], w, &clues[y]) || !shows(&column, h, &clues[h + x]) {
+            return;
+        }
     }
     if at == w * h {
         grids.push(cells.clone());
         return;
     }
     for colour in (0..=k).filter(|colour| puzzle.cells[at] >> colour & 1 == 1) {
-        cells[at] = 1 << colour;
-        extend(puzzle, clues, cells, at + 1, grids);
-        cells[at] = puzzle.cells[at];
+        cells.push(1 << colour);
+        extend(puzzle, clues, cells, grids);
+        cells.pop();
     }
+}
+
+/// Whether a whole line, of single colours, shows its clue; the beginning of a line, whether it may still come to that.
+fn shows(line: &[u8], length: usize, clue: &[(u8, u8)]) -> bool {
+    let mut shown: Clue = line
+        .chunk_by(|a, b| a == b)
+        .filter(|run| run[0] != 1)
+        .map(|run| (run[0].trailing_zeros() as u8, run.len() as u8))
+        .collect();
+    if line.len() == length {
+        return shown == clue;
+    }
+    let growing = line.last().is_some_and(|&last| last != 1);
+    if growing {
+        // The last run may still grow into its block.
+        let (colour, cells) = shown.pop().expect("a run ends the line");
+        let block = clue.get(shown.len());
+        if !block.is_some_and(|block| block.0 == colour && block.1 >= cells) {
+            return false;
+        }
+    }
+    clue.starts_with(&shown)
 }
 
 /// Compares one puzzle; tells whether its search ended without a limit.

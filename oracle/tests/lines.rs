@@ -2,7 +2,7 @@
 
 use oracle::{generate::Random, raw};
 
-/// Whether a line of colour numbers is the clue's blocks in order with a blank between any two, all else blank.
+/// Whether a line of colour numbers is the clue's blocks in order, all else blank, with a blank between neighbours of one colour.
 fn meets(line: &[u8], clue: &[(u8, u8)]) -> bool {
     let Some((&(colour, length), blocks)) = clue.split_first() else {
         return line.iter().all(|&cell| cell == 0);
@@ -14,7 +14,8 @@ fn meets(line: &[u8], clue: &[(u8, u8)]) -> bool {
             let Some((block, rest)) = line.split_at_checked(length.into()) else {
                 return false;
             };
-            let parted = blocks.is_empty() || rest.first() == Some(&0);
+            let alike = blocks.first().is_some_and(|next| next.0 == colour);
+            let parted = !alike || rest.first() == Some(&0);
             block.iter().all(|&cell| cell == colour) && parted && meets(rest, blocks)
         }
     }

@@ -39,6 +39,21 @@ impl From<(u8, u8)> for Block {
 /// assert_eq!((coloured.width(), coloured.height(), coloured.colours()), (3, 2, 2));
 /// ```
 ///
+/// A line meets its clue if the runs of equal colours other than blank that it falls into are the clue's blocks, in order. So blocks of different colours
+/// may touch, and between two neighbouring blocks of the same colour there is a blank:
+///
+/// ```
+/// use belutharin::{solve, Limits, Puzzle};
+///
+/// let touching = Puzzle::new(vec![vec![(1, 1), (2, 1)]], vec![vec![(1, 1)], vec![(2, 1)]]);
+/// let grids: Vec<_> = solve(&touching, Limits::default())?.grids().collect();
+/// assert_eq!(grids[0].to_string(), "12\n");
+///
+/// let too_close = Puzzle::new(vec![vec![1, 1]], vec![vec![1], vec![1], vec![]]);
+/// assert_eq!(solve(&too_close, Limits::default())?.grids().count(), 0);
+/// # Ok::<(), belutharin::Refusal>(())
+/// ```
+///
 /// Nothing is tested here. [`solve`](crate::solve) refuses a puzzle that it can't take and says why.
 #[derive(Clone, Debug, PartialEq, Eq)]
 pub struct Puzzle {

@@ -1,7 +1,8 @@
 //! The rules number for number, on bytes: the library's functions with nothing added.
 //!
 //! A cell is a set of colours, bit 0 for blank and bit c for colour c. Cells stand row by row. The clues are those of the rows from the top,
-//! then those of the columns from the left; each is one count, then for each block its colour and its length.
+//! then those of the columns from the left; each is one count, then for each block its colour and its length. Blocks of different colours may touch;
+//! neighbouring blocks of the same colour have a blank between them.
 //!
 //! What is wrong with an input is told by the number; the lowest that applies is given.
 //!

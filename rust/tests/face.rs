@@ -58,6 +58,20 @@ fn a_coloured_puzzle_is_solved() {
 }
 
 #[test]
+fn colours_may_touch() {
+    let puzzle = Puzzle::new(
+        vec![vec![(1, 1)], vec![(1, 1), (2, 1)]],
+        vec![vec![(1, 1)], vec![(1, 1)], vec![(2, 1)]],
+    );
+    let Ok(Answer::Listed(listed)) = solve(&puzzle, Limits::default()) else {
+        panic!("two grids fit");
+    };
+    assert!(listed.is_complete());
+    let drawn: Vec<_> = listed.grids().map(|grid| grid.to_string()).collect();
+    assert_eq!(drawn, ["010\n102\n", "100\n012\n"]);
+}
+
+#[test]
 fn a_dead_end_has_no_grid() {
     let puzzle = Puzzle::new(vec![vec![1]], vec![vec![]]);
     let answer = solve(&puzzle, Limits::default()).expect("it is accepted");

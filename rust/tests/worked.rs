@@ -40,7 +40,7 @@ fn lines() {
     assert_eq!(reduced(1, &[2, 1, 1, 1, 1], &[3; 3]), (1, vec![2, 1, 2]));
     assert_eq!(reduced(1, &[0], &[3; 3]), (1, vec![1, 1, 1]));
     assert_eq!(reduced(1, &[1, 1, 2], &[3]), (3, vec![3]));
-    assert_eq!(reduced(2, &[2, 1, 1, 2, 1], &[7; 2]), (3, vec![7, 7]));
+    assert_eq!(reduced(2, &[2, 1, 1, 2, 1], &[7; 2]), (1, vec![2, 4]));
 }
 
 #[test]

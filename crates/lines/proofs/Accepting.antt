@@ -1,5 +1,6 @@
 -- The machine of a clue accepts the lines that meet the clue, and no others.
 use mathlib.Core.Path.{_≡_, refl, ap, sym, _∙_, subst}
+use mathlib.Core.Logic.{inl, inr}
 use mathlib.Core.Bool.{true}
 use mathlib.Core.List.{List, [], _∷_, _++_}
 use Prim.Native.Nat.{ℕ, zero, suc, _+_, _*_, _≤_, _<_}
@@ -14,6 +15,7 @@ use Rattle.rules.specs.Clues.{Block, Clue, within, allowed, regular}
 use Rattle.rules.specs.Lines.{cellsOf, between, Meets, nothing, blank, block}
 use Rattle.rules.proofs.Tests.{by-equal, and-true}
 use Rattle.rules.proofs.Lines.{blanks}
+use Rattle.rules.proofs.Stretches.{between-cases}
 use Rattle.rules.proofs.Sets.{bit-suc, bit-le, bit-none, bit-low, bit-up}
 use Rattle.lines.specs.declared.machine.Machine.{Machine}
 use Rattle.lines.specs.Machines.{raised, pushed, pushedAll, opened, machine}
@@ -47,10 +49,9 @@ below-same : (k c n : ℕ) → c < k → Below k (replicate n c)
 below-same k c zero h = tt
 below-same k c (suc n) h = (h, below-same k c n h)
 
--- what must stand between two blocks is a blank or nothing: all that the proofs know of it, but for `blanks-more` and `blanks-last`, which `blanks_between` cites
+-- what must stand between two blocks is a blank or nothing: all that the proofs know of it, but for the laws that `blanks_between` cites
 pub between-blanks : (b : Block) (clue : Clue) → (n : ℕ) × (n ≤ 1) × (between b clue ≡ replicate n 0)
-between-blanks b [] = (0, omega arith, refl)
-between-blanks b (next ∷ clue) = (1, omega arith, refl)
+between-blanks b clue = elim (between-cases b clue) [ inl e ↦ (0, omega arith, e) | inr e ↦ (1, omega arith, e) ]
 
 below-between : (b : Block) (clue : Clue) → Below 8 (between b clue)
 below-between b clue = let w = between-blanks b clue in subst (Below 8) (sym (w .2)) (below-same 8 0 (w .0) (omega arith))

@@ -17,6 +17,7 @@ use Rattle.rules.specs.Sets.{Colour}
 use Rattle.rules.specs.Clues.{Block, Clue, within, allowed, regular}
 use Rattle.rules.specs.Lines.{cellsOf, between}
 use Rattle.rules.proofs.Tests.{on-test, by-test, by-equal, clash, and-true}
+use Rattle.rules.proofs.Stretches.{between-same, between-other}
 use Rattle.lines.specs.declared.machine.Machine.{Machine}
 use Rattle.lines.specs.Machines.{raised, pushed, pushedAll, opened, machine, closed, need, machineOf, Room, clueIn, blockIn, restIn, Legal}
 use Rattle.lines.proofs.Accepting.{Coloured, coloured, between-blanks, by-same, by-other, by-long, machine-long, zeros}
@@ -231,8 +232,13 @@ module _ (bytes : List ℕ) (j blanks : ℕ) (some : 0 < j) (inside : j ≤ leng
 
 -- ## The whole clue
 
-pub blanks-more : (bytes : List ℕ) (j : ℕ) → 0 < j → j < length bytes / 2 → 0 ∷ [] ≡ between (blockIn bytes (j - 1)) (restIn bytes j)
-blanks-more bytes j h l = ap (between (blockIn bytes (j - 1))) (sym (rest-cons bytes j l))
+pub blanks-same : (bytes : List ℕ) (j : ℕ) → j < length bytes / 2 → getD bytes (2 * (j - 1)) 0 ≡ getD bytes (2 * j) 0 → 0 ∷ [] ≡ between (blockIn bytes (j - 1)) (restIn bytes j)
+blanks-same bytes j l e =
+    sym (ap (between (blockIn bytes (j - 1))) (rest-cons bytes j l) ∙ between-same (blockIn bytes (j - 1)) (blockIn bytes j) (restIn bytes (suc j)) e)
+
+pub blanks-other : (bytes : List ℕ) (j : ℕ) → j < length bytes / 2 → (getD bytes (2 * (j - 1)) 0 ≡ getD bytes (2 * j) 0 → ⊥) → [] ≡ between (blockIn bytes (j - 1)) (restIn bytes j)
+blanks-other bytes j l n =
+    sym (ap (between (blockIn bytes (j - 1))) (rest-cons bytes j l) ∙ between-other (blockIn bytes (j - 1)) (blockIn bytes j) (restIn bytes (suc j)) n)
 
 pub blanks-last : (bytes : List ℕ) (j : ℕ) → length bytes / 2 ≤ j → [] ≡ between (blockIn bytes (j - 1)) (restIn bytes j)
 blanks-last bytes j h = ap (between (blockIn bytes (j - 1))) (sym (rest-none bytes j h))

@@ -19,19 +19,29 @@ threeInFive : reduceBy (machineOf (clueIn (1 ∷ 3 ∷ []))) (3 ∷ 3 ∷ 3 ∷ 
 unfolding computed
 threeInFive = refl
 
--- A cell of colour 1 and one of colour 2. After the first, at state 1, a blank goes on to state 2; none may stay at state 1.
-twoColours : machineOf (clueIn (1 ∷ 1 ∷ 2 ∷ 1 ∷ [])) ≡ record { by = 2 ∷ 1 ∷ 4 ∷ 0 ∷ 0 ∷ 0 ∷ 0 ∷ 0 ∷ []; gap = 13; last = 8 }
+-- Two cells of colour 1, each a block. After the first, at state 1, a blank goes on to state 2, from which colour 1 goes on; none may stay at state 1.
+oneColour : machineOf (clueIn (1 ∷ 1 ∷ 1 ∷ 1 ∷ [])) ≡ record { by = 2 ∷ 5 ∷ 0 ∷ 0 ∷ 0 ∷ 0 ∷ 0 ∷ 0 ∷ []; gap = 13; last = 8 }
+unfolding computed
+oneColour = refl
+
+-- They do not fit two cells, and fit three in one way.
+oneInTwo : reduceBy (machineOf (clueIn (1 ∷ 1 ∷ 1 ∷ 1 ∷ []))) (3 ∷ 3 ∷ []) ≡ none
+unfolding computed
+oneInTwo = refl
+
+oneInThree : reduceBy (machineOf (clueIn (1 ∷ 1 ∷ 1 ∷ 1 ∷ []))) (3 ∷ 3 ∷ 3 ∷ []) ≡ some (2 ∷ 1 ∷ 2 ∷ [])
+unfolding computed
+oneInThree = refl
+
+-- A cell of colour 1 and one of colour 2. After the first, at state 1, colour 2 goes on at once, and a blank may stay.
+twoColours : machineOf (clueIn (1 ∷ 1 ∷ 2 ∷ 1 ∷ [])) ≡ record { by = 0 ∷ 1 ∷ 2 ∷ 0 ∷ 0 ∷ 0 ∷ 0 ∷ 0 ∷ []; gap = 7; last = 4 }
 unfolding computed
 twoColours = refl
 
--- They do not fit two cells, and fit three in one way.
-twoInTwo : reduceBy (machineOf (clueIn (1 ∷ 1 ∷ 2 ∷ 1 ∷ []))) (7 ∷ 7 ∷ []) ≡ none
+-- They fit two cells in one way.
+twoInTwo : reduceBy (machineOf (clueIn (1 ∷ 1 ∷ 2 ∷ 1 ∷ []))) (7 ∷ 7 ∷ []) ≡ some (2 ∷ 4 ∷ [])
 unfolding computed
 twoInTwo = refl
-
-twoInThree : reduceBy (machineOf (clueIn (1 ∷ 1 ∷ 2 ∷ 1 ∷ []))) (7 ∷ 7 ∷ 7 ∷ []) ≡ some (2 ∷ 1 ∷ 4 ∷ [])
-unfolding computed
-twoInThree = refl
 
 -- Two blocks of 9 need 19 cells, more than any line has.
 tooLong : machineOf (clueIn (1 ∷ 9 ∷ 1 ∷ 9 ∷ [])) ≡ closed

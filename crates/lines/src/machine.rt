@@ -77,7 +77,14 @@ fn blanks_between(pairs: &[u8], j: usize) -> usize
     requires { ⌜ (0 < j) × (j ≤ length (now pairs) / 2) ⌝ }
     ensures { λ r. ⌜ replicate r 0 ≡ between (blockIn (now (pairs .entry)) (j - 1)) (restIn (now (pairs .entry)) j) ⌝ }
 {
-    if j < pairs.len() / 2 { 1 } else { 0 }
+    if j == pairs.len() / 2 {
+        return 0;
+    }
+    if pairs[2 * (j - 1)] == pairs[2 * j] {
+        1
+    } else {
+        0
+    }
 }
 
 // The fewest cells that the clue needs.

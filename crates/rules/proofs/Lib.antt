@@ -17,6 +17,7 @@ pub mod Rates
 pub mod Floats
 pub mod Clues
 pub mod Lines
+pub mod Stretches
 pub mod Narrowing
 pub mod Propagation
 pub mod Neighbours

@@ -1,13 +1,14 @@
 -- Lines, what it is to meet a clue, and reducing. A line is a list of colours, or of the sets that its cells' colours are taken from.
--- First the meaning, as relations. Then `fits` and `reduce`, which compute it: `proofs/Lines.antt` shows that they say the same.
+-- First the meaning, as relations, and the same in the words of one who looks at a finished line: `proofs/Stretches.antt`. Then `fits` and `reduce`, which compute it: `proofs/Lines.antt`.
 use mathlib.Core.Path.{_≡_}
 use mathlib.Core.Bool.{Bool, true, false, _&&_}
 use mathlib.Core.List.{List, [], _∷_, _++_, map}
 use mathlib.Core.Logic.{_↔_}
 use mathlib.Core.Option.{Option, none, some}
-use Prim.Native.Nat.{ℕ, _<_}
+use Prim.Native.Nat.{ℕ, suc, _<_}
+use lib.Dec.{eqb, ltb}
 use lib.ListN.{length, getD, set, replicate}
-use Rattle.rules.specs.Lists.{from}
+use Rattle.rules.specs.Lists.{keep, from}
 use Rattle.rules.specs.Sets.{Colour, _∋_, has, setOf, only}
 use Rattle.rules.specs.Clues.{Block, Clue}
 
@@ -15,10 +16,11 @@ use Rattle.rules.specs.Clues.{Block, Clue}
 abbrev pub cellsOf : Block → List Colour
 cellsOf b = replicate (b .cells) (b .colour)
 
--- THE ONE PLACE where a blank is asked between two blocks: what must stand between a block and the rest of the clue
+-- THE ONE PLACE where a blank is asked between two blocks: what must stand between a block and the rest of the clue.
+-- It is a blank where the next block has the same colour, and nothing where it has another.
 abbrev pub between : Block → Clue → List Colour
 between b [] = []
-between b (next ∷ clue) = 0 ∷ []
+between b (next ∷ clue) = elim (eqb (b .colour) (next .colour)) [ true ↦ 0 ∷ [] | false ↦ [] ]
 
 -- ## The meaning
 
@@ -28,6 +30,32 @@ pub data Meets : Clue → List Colour → Type 0 where
   nothing : Meets [] []
   blank : {clue : Clue} {line : List Colour} → Meets clue line → Meets clue (0 ∷ line)
   block : {b : Block} {clue : Clue} {line : List Colour} → Meets clue line → Meets (b ∷ clue) (cellsOf b ++ (between b clue ++ line))
+
+-- ## The same, as it is seen in a finished line
+
+-- a cell more in front of a line's stretches: it makes the first of them longer where that has its colour, and otherwise is a stretch of its own
+abbrev pub inFront : Colour → List Block → List Block
+inFront c [] = record { colour = c; cells = 1 } ∷ []
+inFront c (s ∷ more) = elim (eqb c (s .colour)) [ true ↦ record { colour = c; cells = suc (s .cells) } ∷ more | false ↦ record { colour = c; cells = 1 } ∷ s ∷ more ]
+
+-- the stretches of equal colours that a line falls into, in order, each as long as it can be; blank ones are among them
+unfoldable pub stretches : List Colour → List Block
+stretches [] = []
+stretches (c ∷ line) = inFront c (stretches line)
+
+abbrev pub notBlank : Block → Bool
+notBlank s = ltb 0 (s .colour)
+
+-- the blocks that a line shows: its stretches, without the blank ones
+abbrev pub blocksOf : List Colour → Clue
+blocksOf line = keep notBlank (stretches line)
+
+-- What a puzzle editor would say, in other words than `Meets`: a line meets its clue exactly if the blocks that it shows are the clue's, in order.
+-- It holds of every line and every clue that the layout allows: `meets-exactly` of `proofs/Stretches.antt`.
+abbrev pub MeetsExactly : Clue → List Colour → Type 0
+MeetsExactly clue line = Meets clue line ↔ (blocksOf line ≡ clue)
+
+-- ## Lines taken from sets
 
 -- the line takes each cell's colour from its set
 pub data From : List ℕ → List Colour → Type 0 where

@@ -24,21 +24,22 @@ pub trait LineSolver {
     fn meets(clue: &[Self::BlockType], cells: &[<Self::BlockType as Block>::Color]) -> bool;
 }
 
-/// The blanks that must stand between two neighbouring blocks.
-fn blanks_between(_left: ColouredBlock, _right: ColouredBlock) -> usize {
-    1
+/// The blanks that must stand between two neighbouring blocks: one where they have the same colour.
+fn blanks_between<const TOUCH: bool>(left: ColouredBlock, right: ColouredBlock) -> usize {
+    usize::from(!TOUCH || left.colour == right.colour)
 }
 
-/// The line solver of the stand-in.
+/// The line solver of the stand-in. `Placing<false>` lets no two blocks touch, whatever their colours: beside it one sees
+/// where it matters that they may.
 #[derive(Debug)]
-pub struct Placing;
+pub struct Placing<const TOUCH: bool = true>;
 
-impl LineSolver for Placing {
+impl<const TOUCH: bool> LineSolver for Placing<TOUCH> {
     type BlockType = ColouredBlock;
 
     fn reduce(clue: &[ColouredBlock], cells: &mut [Cell]) -> Result<(), UnsolvableLine> {
         let runs = Runs::new(cells);
-        let line = Line {
+        let line = Line::<TOUCH> {
             clue,
             length: cells.len(),
             runs: &runs,
@@ -72,7 +73,7 @@ impl LineSolver for Placing {
                 return false;
             }
             if let Some((left, end)) = previous {
-                if start - end < blanks_between(left, block) {
+                if start - end < blanks_between::<TOUCH>(left, block) {
                     return false;
                 }
             }
@@ -111,13 +112,13 @@ impl Runs {
 }
 
 /// A line and its clue. A place in it is a pair: blocks placed before, cells passed; a block may begin at once.
-struct Line<'a> {
+struct Line<'a, const TOUCH: bool> {
     clue: &'a [ColouredBlock],
     length: usize,
     runs: &'a Runs,
 }
 
-impl Line<'_> {
+impl<const TOUCH: bool> Line<'_, TOUCH> {
     /// Where the next block ends and where the one after it may begin, if it can begin here.
     fn placed(&self, block: usize, start: usize) -> Option<(usize, usize)> {
         let here = *self.clue.get(block)?;
@@ -126,7 +127,7 @@ impl Line<'_> {
             return None;
         }
         let blanks = match self.clue.get(block + 1) {
-            Some(&next) => blanks_between(here, next),
+            Some(&next) => blanks_between::<TOUCH>(here, next),
             None => 0,
         };
         self.runs

@@ -10,6 +10,9 @@ use crate::{
     solver::{line::Placing, probing::FullProbe1},
 };
 
+/// The search over the stand-in.
+pub type Search<S = Placing> = Solver<ColouredBlock, FullProbe1<ColouredBlock>, S>;
+
 impl<B, P, S> Solver<B, P, S>
 where
     B: Block,
@@ -43,12 +46,25 @@ where
     }
 }
 
-/// The search over the stand-in.
-pub type Search = Solver<ColouredBlock, FullProbe1<ColouredBlock>, Placing>;
-
 /// The search over bytes. What is refused, and where the answer's bytes go, is the same for both builds.
 #[allow(clippy::too_many_arguments)]
 pub fn solve(
+    w: usize,
+    h: usize,
+    k: usize,
+    clues: &[u8],
+    cells: &mut [u8],
+    list: &mut [u8],
+    most_grids: usize,
+    most_depth: usize,
+    budget: u64,
+) -> Answer {
+    solve_by::<Placing>(w, h, k, clues, cells, list, most_grids, most_depth, budget)
+}
+
+/// The same by any line solver of the stand-in.
+#[allow(clippy::too_many_arguments)]
+pub fn solve_by<S: LineSolver<BlockType = ColouredBlock>>(
     w: usize,
     h: usize,
     k: usize,
@@ -70,7 +86,7 @@ pub fn solve(
         cells.iter().copied().map(Cell).collect(),
     ));
     clock::reset();
-    let mut search = Search::with_options(
+    let mut search = Search::<S>::with_options(
         MutRc::clone(&board),
         Some(most_grids),
         Some(budget as u32),

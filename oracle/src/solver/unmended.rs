@@ -13,5 +13,5 @@ pub mod reading;
 /// The rate of a cell whose colours newly solve at most `max` and at least `min` cells, by the published function.
 pub fn rate(max: usize, min: usize) -> f64 {
     let priority = Priority::from(0.0);
-    reading::Search::rate_by_impact([(max, priority), (min, priority)].iter())
+    <reading::Search>::rate_by_impact([(max, priority), (min, priority)].iter())
 }

@@ -1,7 +1,8 @@
 //! The cases of `lines.txt`, `rates.txt` and `parts.txt`.
 
 use oracle::{
-    generate::{clue_of_line, edit, Random},
+    apart,
+    generate::{clue_of_line, edit, random_grid, Random},
     puzzle::{clue_bytes, Clue},
     raw,
 };
@@ -22,6 +23,7 @@ pub fn lines() -> Vec<Row> {
     let mut random = Random::new(SEED);
     let mut rows = worked_lines();
     rows.extend(short_lines());
+    rows.extend(short_coloured_lines());
     rows.extend((0..LINES).map(|_| any_line(&mut random)));
     rows.extend(refused_lines());
     rows.extend((0..BROKEN_LINES).map(|_| broken_line(&mut random)));
@@ -37,6 +39,11 @@ fn line(k: usize, clue: &[u8], cells: &[u8]) -> Row {
     row.list(cells);
     row.answer(number);
     row.list(&after);
+    if k > 1 && number <= 3 {
+        let mut if_apart = cells.to_vec();
+        let other = apart::reduce_line(k, clue, &mut if_apart);
+        row.touching = Some((other, if_apart) != (number, after));
+    }
     row
 }
 
@@ -77,24 +84,37 @@ fn short_lines() -> Vec<Row> {
     rows
 }
 
-/// A random line with the clue of what it hides, sometimes edited, and cells that are open, given or wrong. Now and then
-/// blocks of different colours touch in it, as none may.
+/// Two or three blocks of one or two cells in two colours, on one to three cells that are open or lack a colour: there is
+/// room for all blanks, for those that must be, or for too few.
+fn short_coloured_lines() -> Vec<Row> {
+    let clues: [&[(u8, u8)]; 7] = [
+        &[(1, 1), (1, 1)],
+        &[(1, 1), (2, 1)],
+        &[(2, 1), (1, 1)],
+        &[(1, 2), (2, 1)],
+        &[(1, 1), (2, 1), (1, 1)],
+        &[(1, 1), (1, 1), (2, 1)],
+        &[(1, 1), (2, 1), (2, 1)],
+    ];
+    let sets = [7, 6, 5, 3];
+    let mut rows = Vec::new();
+    for length in 1..=3 {
+        for number in 0..4_usize.pow(length) {
+            let cells: Vec<u8> = (0..length)
+                .map(|at| sets[number / 4_usize.pow(at) % 4])
+                .collect();
+            rows.extend(clues.iter().map(|clue| line(2, &clue_bytes(clue), &cells)));
+        }
+    }
+    rows
+}
+
+/// A random line with the clue of what it hides, sometimes edited, and cells that are open, given or wrong.
 fn line_parts(random: &mut Random) -> (usize, Clue, Vec<u8>) {
     let k = random.between(1, 3);
     let length = random.between(1, 16);
     let filled = random.pick(&[20, 40, 60, 80]);
-    let mut hidden = vec![0; length];
-    for at in 0..length {
-        if random.percent(filled) {
-            let before = if at > 0 { hidden[at - 1] } else { 0 };
-            let goes_on = before > 0 && random.percent(85);
-            hidden[at] = if goes_on {
-                before
-            } else {
-                random.between(1, k) as u8
-            };
-        }
-    }
+    let hidden = random_grid(random, filled, length, 1, k);
     let mut clue = clue_of_line(&hidden);
     if random.percent(15) {
         edit(random, &mut clue, k);

@@ -4,7 +4,7 @@ use lib.Ieee.{span, climb, size as digits, odd, units, round, sum as floatSum, a
 use Rattle.rules.specs.Loops.{turns, run}
 use Rattle.rules.specs.Sets.{bit, has, members, setOf, single, empty, without, lost, proper}
 use Rattle.rules.specs.Clues.{regular, pairBytes, clueBytes, readPairs, readLine, readLines, cluesOf, clueOf}
-use Rattle.rules.specs.Lines.{fits, reduce}
+use Rattle.rules.specs.Lines.{stretches, fits, reduce}
 use Rattle.rules.specs.Boards.{put, remove, removeAll, solved, size, newly, same, lineCells, crossing, beside, around}
 use Rattle.rules.specs.Propagation.{write, pend, propagateOn, propagate, check}
 use Rattle.rules.specs.Floats.{priorityOf, priority, wholeRoot, root, rate}
@@ -15,5 +15,5 @@ use Rattle.rules.specs.Search.{storeIn, among, others, closed, anyClosed
 use Rattle.rules.specs.Answers.{written, solve, reduceLine, rateAsked, gridOf}
 
 unfoldable pub computed : Unit {0}
-unfolding trailingZeros span climb digits odd units round floatSum add div ofInt lt turns run bit has members setOf single empty without lost proper regular pairBytes clueBytes readPairs readLine readLines cluesOf clueOf fits reduce put remove removeAll solved size newly same lineCells crossing beside around write pend propagateOn propagate check priorityOf priority wholeRoot root rate push waiting leader pop popped inOrder pushAll assumedAll startQueue pushAround outcomes probeOn probe cellOrder tally colourOrder choose storeIn among others closed anyClosed firstUnsolved met pass refill nodeFrom tryGuess search wholeRun written solve reduceLine rateAsked gridOf
+unfolding trailingZeros span climb digits odd units round floatSum add div ofInt lt turns run bit has members setOf single empty without lost proper regular pairBytes clueBytes readPairs readLine readLines cluesOf clueOf stretches fits reduce put remove removeAll solved size newly same lineCells crossing beside around write pend propagateOn propagate check priorityOf priority wholeRoot root rate push waiting leader pop popped inOrder pushAll assumedAll startQueue pushAround outcomes probeOn probe cellOrder tally colourOrder choose storeIn among others closed anyClosed firstUnsolved met pass refill nodeFrom tryGuess search wholeRun written solve reduceLine rateAsked gridOf
 computed = tt

@@ -71,7 +71,7 @@ said =
     ∷ lineIs (line 1 (2 ∷ 1 ∷ 2 ∷ []))
     ∷ lineIs (line 1 (1 ∷ 1 ∷ 1 ∷ []))
     ∷ lineIs (line 3 (3 ∷ []))
-    ∷ lineIs (line 3 (7 ∷ 7 ∷ []))
+    ∷ lineIs (line 1 (2 ∷ 4 ∷ []))
     ∷ rateIs (record { number = 0; rate = tenths 20 })
     ∷ rateIs (record { number = 0; rate = tenths 45 })
     ∷ rateIs (record { number = 0; rate = tenths 0 })
