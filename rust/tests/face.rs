@@ -68,7 +68,7 @@ fn colours_may_touch() {
     };
     assert!(listed.is_complete());
     let drawn: Vec<_> = listed.grids().map(|grid| grid.to_string()).collect();
-    assert_eq!(drawn, ["010\n102\n", "100\n012\n"]);
+    assert_eq!(drawn, ["100\n012\n", "010\n102\n"]);
 }
 
 #[test]
