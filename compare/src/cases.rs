@@ -2,9 +2,7 @@
 
 use oracle::{
     damage::DAMAGES,
-    generate::{
-        any_kind, any_limits, clue_of_line, edit, limited, random_grid, sparse, Random,
-    },
+    generate::{any_kind, any_limits, clue_of_line, edit, limited, random_grid, sparse, Random},
     mended,
     puzzle::{clue_bytes, Puzzle},
 };
