@@ -8,12 +8,12 @@ use native.Mathlib.Omega.{arith}
 use lib.Dec.{leb}
 use lib.ListN.{length, getD, set, replicate, length-set, length-map, List·getD-map}
 use lib.Seq.{getD-set-same, getD-set-other}
-use borrow.Author.Tests.{leb-true}
 use Rattle.rules.specs.Lists.{every}
 use Rattle.rules.specs.Sets.{Colour, bit, _∋_}
-use Rattle.rules.specs.Clues.{Block, Clue, within, allowed, regular}
+use Rattle.rules.specs.Clues.{Block, Clue, allowed, regular}
 use Rattle.rules.specs.Lines.{cellsOf, between, Meets, nothing, blank, block}
 use Rattle.rules.proofs.Tests.{by-equal, and-true}
+use Rattle.rules.proofs.Clues.{allowed-out}
 use Rattle.rules.proofs.Lines.{blanks}
 use Rattle.rules.proofs.Stretches.{between-cases}
 use Rattle.rules.proofs.Sets.{bit-suc, bit-le, bit-none, bit-low, bit-up}
@@ -41,9 +41,7 @@ coloured k clue h e = each clue (and-true (leb (length clue) 16) (every (allowed
     each [] e = tt
     each (b ∷ clue) e =
         let r = and-true (allowed k b) (every (allowed k) clue) e in
-        let c = and-true (within 1 k (b .colour)) (within 1 16 (b .cells)) (r .0) in
-        let l = leb-true (b .colour) k (and-true (leb 1 (b .colour)) (leb (b .colour) k) (c .0) .1) in
-        (omega arith, each clue (r .1))
+        (omega (arith, allowed-out k b (r .0) .1), each clue (r .1))
 
 below-same : (k c n : ℕ) → c < k → Below k (replicate n c)
 below-same k c zero h = tt

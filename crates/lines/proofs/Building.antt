@@ -14,9 +14,10 @@ use lib.Seq.{drop-cons}
 use borrow.Author.Tests.{leb-true, le-leb, lt-leb, ltb-true, ltb-false}
 use Rattle.rules.specs.Lists.{every}
 use Rattle.rules.specs.Sets.{Colour}
-use Rattle.rules.specs.Clues.{Block, Clue, within, allowed, regular}
+use Rattle.rules.specs.Clues.{Block, Clue, allowed, regular}
 use Rattle.rules.specs.Lines.{cellsOf, between}
 use Rattle.rules.proofs.Tests.{on-test, by-test, by-equal, clash, and-true}
+use Rattle.rules.proofs.Clues.{allowed-out}
 use Rattle.rules.proofs.Stretches.{between-same, between-other}
 use Rattle.lines.specs.declared.machine.Machine.{Machine}
 use Rattle.lines.specs.Machines.{raised, pushed, pushedAll, opened, machine, closed, need, machineOf, Room, clueIn, blockIn, restIn, Legal}
@@ -177,10 +178,8 @@ unfolding need
 need-each k [] e = omega arith
 need-each k (b ∷ clue) e =
     let r = and-true (allowed k b) (every (allowed k) clue) e in
-    let c = and-true (within 1 k (b .colour)) (within 1 16 (b .cells)) (r .0) in
-    let n = leb-true (b .cells) 16 (and-true (leb 1 (b .cells)) (leb (b .cells) 16) (c .1) .1) in
     let w = between-blanks b clue in
-    omega (arith, need-each k clue (r .1), ap length (w .2), length-replicate {A = ℕ} (w .0) 0)
+    omega (arith, allowed-out k b (r .0) .3, need-each k clue (r .1), ap length (w .2), length-replicate {A = ℕ} (w .0) 0)
 
 need-few : (bytes : List ℕ) → Legal bytes → need (clueIn bytes) ≤ 272
 unfolding regular

@@ -4,13 +4,22 @@ use mathlib.Core.Logic.{_↔_}
 use mathlib.Core.Bool.{Bool, true, false, _&&_}
 use mathlib.Core.List.{List, [], _∷_, _++_, append-assoc, append-nil}
 use mathlib.Core.Option.{some}
-use Prim.Native.Nat.{ℕ, zero, suc}
+use Prim.Native.Nat.{ℕ, zero, suc, _≤_}
 use native.Mathlib.Omega.{arith}
 use lib.ListN.{length}
 use lib.Dec.{leb}
+use borrow.Author.Tests.{leb-true}
 use Rattle.rules.specs.Lists.{every}
-use Rattle.rules.specs.Clues.{Block, Clue, allowed, regular, pairBytes, lineBytes, clueBytes, Read, read, broken, ahead, whole, readPairs, readLine, readLines, cluesOf, clueOf}
+use Rattle.rules.specs.Clues.{Block, Clue, within, allowed, regular, pairBytes, lineBytes, clueBytes, Read, read, broken, ahead, whole, readPairs, readLine, readLines, cluesOf, clueOf}
 use Rattle.rules.proofs.Tests.{on-test, clash, and-true, true-and}
+
+-- a block that the layout allows
+pub allowed-out : (k : ℕ) (b : Block) → allowed k b ≡ true → (1 ≤ b .colour) × (b .colour ≤ k) × (1 ≤ b .cells) × (b .cells ≤ 16)
+allowed-out k b e =
+    let r = and-true (within 1 k (b .colour)) (within 1 16 (b .cells)) e in
+    let c = and-true (leb 1 (b .colour)) (leb (b .colour) k) (r .0) in
+    let n = and-true (leb 1 (b .cells)) (leb (b .cells) 16) (r .1) in
+    (leb-true 1 (b .colour) (c .0), leb-true (b .colour) k (c .1), leb-true 1 (b .cells) (n .0), leb-true (b .cells) 16 (n .1))
 
 -- what was read, with one thing more in front of it
 ahead-out : {A : Type 0} (a : A) (r : Read (List A)) (l : List A) (rest : List ℕ) → ahead a r ≡ read l rest → (tail : List A) × (r ≡ read tail rest) × (l ≡ a ∷ tail)

@@ -9,17 +9,17 @@ use Prim.Native.Nat.{ℕ, zero, suc, _+_, _<_}
 use native.Mathlib.Omega.{arith}
 use lib.ListN.{length, getD, replicate}
 use lib.Dec.{eqb, leb}
-use borrow.Author.Tests.{eqb-true, eqb-false, eq-eqb, ne-eqb, lt-ltb, le-ltb, ltb-false, leb-true}
+use borrow.Author.Tests.{eqb-true, eqb-false, eq-eqb, ne-eqb, lt-ltb, le-ltb, ltb-false}
 use Rattle.rules.specs.Lists.{keep, every}
 use Rattle.rules.specs.Sets.{Colour}
-use Rattle.rules.specs.Clues.{Block, Clue, within, allowed, regular}
+use Rattle.rules.specs.Clues.{Block, Clue, allowed, regular}
 use Rattle.rules.specs.Lines.{cellsOf, between, Meets, nothing, blank, block, inFront, stretches, notBlank, blocksOf, MeetsExactly}
 use Rattle.rules.specs.Boards.{lineCells}
 use Rattle.rules.specs.Answers.{Asked}
 use Rattle.rules.specs.Promises.{AllMeet, AllShow, Accepted, puzzleOf}
 use Rattle.rules.proofs.Tests.{on-test, and-true}
 use Rattle.rules.proofs.Lists.{every-out, getD-in}
-use Rattle.rules.proofs.Clues.{cluesOf-exact}
+use Rattle.rules.proofs.Clues.{allowed-out, cluesOf-exact}
 use Rattle.rules.proofs.Lines.{blanks}
 
 -- ## What must stand between two blocks
@@ -181,11 +181,8 @@ regular-solid k clue e = each clue (and-true (leb (length clue) 16) (every (allo
     each [] e = tt
     each (b ∷ clue) e =
         let r = and-true (allowed k b) (every (allowed k) clue) e in
-        let q = and-true (within 1 k (b .colour)) (within 1 16 (b .cells)) (r .0) in (
-          leb-true 1 (b .colour) (and-true (leb 1 (b .colour)) (leb (b .colour) k) (q .0) .0),
-          leb-true 1 (b .cells) (and-true (leb 1 (b .cells)) (leb (b .cells) 16) (q .1) .0),
-          each clue (r .1),
-        )
+        let q = allowed-out k b (r .0) in
+        (q .0, q .2, each clue (r .1))
 
 pub meets-exactly : (k : ℕ) (clue : Clue) (line : List Colour) → regular k clue ≡ true → MeetsExactly clue line
 meets-exactly k clue line e = (meets-shows (regular-solid k clue e), λ s. subst (λ c. Meets c line) s (shows-meets line))

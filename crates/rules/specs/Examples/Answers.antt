@@ -1,4 +1,4 @@
--- Numbers given back, worked: refusals by the lowest number, limits in their order, and the mends M1, M4.
+-- Numbers given back, worked: refusals by the lowest number, limits in their order, the mends M1, M4, and colours that touch.
 use mathlib.Core.Path.{_≡_, refl}
 use mathlib.Core.List.{List, [], _∷_}
 use Prim.Native.Nat.{ℕ}
@@ -104,6 +104,19 @@ m1-acts = refl
 m4-acts : refused (asked 3 1 1 1 (1 ∷ 1 ∷ 3 ∷ 1 ∷ 1 ∷ 1 ∷ 1 ∷ 1 ∷ 1 ∷ 0 ∷ []) (3 ∷ 3 ∷ 3 ∷ []) (9 ∷ 9 ∷ 9 ∷ [])) 3
 unfolding computed
 m4-acts = refl
+
+-- ## Blocks side by side, in a row whose columns fix every cell
+
+-- one of colour 1, then one of colour 2: solved
+colours-touch : solve (asked 2 1 2 1 (2 ∷ 1 ∷ 1 ∷ 2 ∷ 1 ∷ 1 ∷ 1 ∷ 1 ∷ 1 ∷ 2 ∷ 1 ∷ []) (7 ∷ 7 ∷ []) (9 ∷ 9 ∷ []))
+    ≡ record { number = 1; grids = 0; steps = 0; deepest = 0; limit = 0; cells = 2 ∷ 4 ∷ []; list = 9 ∷ 9 ∷ [] }
+unfolding computed
+colours-touch = refl
+
+-- two of colour 1, where the third cell is blank: a dead end
+one-colour-parted : refused (asked 3 1 1 1 (2 ∷ 1 ∷ 1 ∷ 1 ∷ 1 ∷ 1 ∷ 1 ∷ 1 ∷ 1 ∷ 1 ∷ 1 ∷ 0 ∷ []) (3 ∷ 3 ∷ 3 ∷ []) (9 ∷ 9 ∷ 9 ∷ [])) 3
+unfolding computed
+one-colour-parted = refl
 
 -- ## Reducing one line: 12, 14, 15 in this order, and the cells untouched
 
