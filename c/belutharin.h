@@ -16,8 +16,8 @@
  * Bytes: a cell is a set of colours, bit 0 for blank and bit c for colour c; cells stand row by row. The clues are those of the rows from the top, then
  * those of the columns from the left; each is one count, then for each block its colour and its length.
  *
- * What a clue means: a line meets it if the runs of equal colours other than blank that the line falls into are the clue's blocks, in order. So blocks of
- * different colours may touch, and between two neighbouring blocks of the same colour there is a blank. */
+ * What a clue means: a line meets it exactly if the stretches of equal colours other than blank that the line falls into are the clue's blocks, in order.
+ * So blocks of different colours may touch, and between two neighbouring blocks of the same colour there is a blank. */
 #ifndef BELUTHARIN_H
 #define BELUTHARIN_H
 

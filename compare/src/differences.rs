@@ -37,12 +37,9 @@ struct Coloured {
 }
 
 impl Coloured {
-    /// Counts a case that the oracle answers with this number, unless it is refused or has one colour.
-    fn count(&mut self, k: usize, number: u8, touching: impl FnOnce() -> bool) {
-        if k > 1 && number <= 3 {
-            self.all += 1;
-            self.touching += usize::from(touching());
-        }
+    fn count(&mut self, touching: Option<bool>) {
+        self.all += usize::from(touching.is_some());
+        self.touching += usize::from(touching == Some(true));
     }
 }
 
@@ -103,14 +100,12 @@ fn compare(case: &Case, counts: &mut Counts) -> Result<(), Differs> {
     match case {
         Case::Search(puzzle) => search(puzzle, counts),
         Case::Line { k, clue, cells } => {
-            let by = |reduce: fn(usize, &[u8], &mut [u8]) -> u8| {
+            counts.coloured[1].count(apart::line_differs(*k, clue, cells));
+            let wanted = {
                 let mut after = cells.clone();
-                let number = reduce(*k, clue, &mut after);
-                (number, after)
+                let number = raw::reduce_line(*k, clue, &mut after);
+                Ok((number, after))
             };
-            let wanted = by(raw::reduce_line);
-            counts.coloured[1].count(*k, wanted.0, || by(apart::reduce_line) != wanted);
-            let wanted = Ok(wanted);
             let got = library::reduce_line(*k, clue, cells);
             let words = || {
                 format!("line: k = {k}, clue {clue:?}, cells {cells:?}: library {got:?}, oracle {wanted:?}")
@@ -159,9 +154,7 @@ fn search(puzzle: &Puzzle, counts: &mut Counts) -> Result<(), Differs> {
     let answer = usize::from(mended.answer.number);
     counts.answers[if answer > 3 { 3 } else { answer - 1 }] += 1;
     counts.searched += usize::from(mended.searched());
-    counts.coloured[0].count(puzzle.k, mended.answer.number, || {
-        !apart::run(puzzle).differences(&mended).is_empty()
-    });
+    counts.coloured[0].count(apart::differs(puzzle, &mended));
     match verdict {
         Verdict::Same => (),
         Verdict::Fault(words) => return Err((words, Some(Box::new(puzzle.clone())))),
@@ -256,7 +249,7 @@ fn summary(seed: u64, count: usize, counts: &Counts, faults: usize) {
     );
     for (name, coloured) in ["searches", "lines"].iter().zip(&counts.coloured) {
         println!(
-            "{name} in two colours or more: {}, of which {} are other where no two blocks may touch",
+            "{name} in two colours or more: {}, of which {} come to something else where no two blocks may touch",
             coloured.all, coloured.touching
         );
     }

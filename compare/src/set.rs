@@ -5,7 +5,6 @@ use oracle::{
     generate::{any_kind, edited, sparse, Kind, Random},
     mended,
     puzzle::{clue_bytes, Outcome, Puzzle},
-    raw,
 };
 use std::{fmt::Write, fs, path::Path, str::SplitAsciiWhitespace};
 
@@ -112,14 +111,8 @@ pub fn lines(puzzle: &Puzzle) -> Vec<(Vec<u8>, Vec<u8>)> {
 
 /// Whether some line of the puzzle, as it is given, would be reduced otherwise if no two blocks might touch.
 fn touches(puzzle: &Puzzle) -> bool {
-    let by = |reduce: fn(usize, &[u8], &mut [u8]) -> u8, clue: &[u8], cells: &[u8]| {
-        let mut after = cells.to_vec();
-        (reduce(puzzle.k, clue, &mut after), after)
-    };
     let mut lines = lines(puzzle).into_iter();
-    lines.any(|(clue, cells)| {
-        by(raw::reduce_line, &clue, &cells) != by(apart::reduce_line, &clue, &cells)
-    })
+    lines.any(|(clue, cells)| apart::line_differs(puzzle.k, &clue, &cells) == Some(true))
 }
 
 /// Chooses the set and writes it: for each class puzzles from a seed, sizes and colours in turn, on which no mend changes the search, and with two

@@ -226,19 +226,22 @@ pub fn clue_of_line(line: &[u8]) -> Clue {
         .collect()
 }
 
+/// The most blocks that a clue may have.
+const MOST_BLOCKS: usize = 16;
+
 /// Makes a block longer or shorter, gives it another colour, drops it, or adds one where there is room for one more.
 pub fn edit(random: &mut Random, clue: &mut Clue, k: usize) {
-    let at = random.below((clue.len() + 1).min(LONGEST_LINE));
+    let at = random.below((clue.len() + 1).min(MOST_BLOCKS));
     let colour = random.between(1, k) as u8;
     if at == clue.len() {
         clue.push((colour, random.between(1, 2) as u8));
         return;
     }
     match random.below(5) {
-        0 => clue[at].1 = (clue[at].1 + 1).min(16),
+        0 => clue[at].1 = (clue[at].1 + 1).min(LONGEST_LINE as u8),
         1 => clue[at].1 = (clue[at].1 - 1).max(1),
         2 => clue[at].0 = colour,
-        3 if clue.len() < LONGEST_LINE => clue.insert(at, (colour, 1)),
+        3 if clue.len() < MOST_BLOCKS => clue.insert(at, (colour, 1)),
         _ => {
             clue.remove(at);
         }

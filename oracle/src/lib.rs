@@ -1,8 +1,8 @@
 //! The published search of nonogrid over a plain stand-in for the parts that it calls, as the judge of Belutharin.
 //!
 //! `unmended::solve` runs the files as published, `mended::solve` with the four mends of docs/RULES.md: both take bytes and give
-//! its numbers. `raw` holds what needs no search, `apart` runs both under another meaning of a clue, `generate`
-//! makes puzzles from a seed, and `damage` breaks them.
+//! its numbers. `raw` holds what needs no search, `apart` has the mended search and the reduction of a line under
+//! another meaning of a clue, `generate` makes puzzles from a seed, and `damage` breaks them.
 
 // Both builds are read out by one file.
 #![allow(clippy::duplicate_mod)]
@@ -41,21 +41,29 @@ pub mod mended {
 /// rules ask for nothing of the kind: beside these one sees on which inputs it matters that colours may touch.
 pub mod apart {
     use crate::{
-        puzzle::{Outcome, Puzzle, Solve},
+        puzzle::{Outcome, Puzzle},
         raw,
         solver::{line::Placing, mended::reading},
     };
 
-    const SOLVE: Solve = reading::solve_by::<Placing<false>>;
-
-    /// Reduces one line.
-    pub fn reduce_line(k: usize, clue: &[u8], cells: &mut [u8]) -> u8 {
-        raw::reduce_line_by::<Placing<false>>(k, clue, cells)
-    }
-
     /// Runs a puzzle.
     pub fn run(puzzle: &Puzzle) -> Outcome {
-        puzzle.run(SOLVE)
+        puzzle.run(reading::solve_by::<Placing<false>>)
+    }
+
+    /// Whether a puzzle comes to something else than this outcome, which is the mended search's. There is nothing to tell
+    /// where it is refused or has one colour.
+    pub fn differs(puzzle: &Puzzle, outcome: &Outcome) -> Option<bool> {
+        let differs = || !run(puzzle).differences(outcome).is_empty();
+        (puzzle.k > 1 && outcome.answer.number <= 3).then(differs)
+    }
+
+    /// The same for one line.
+    pub fn line_differs(k: usize, clue: &[u8], cells: &[u8]) -> Option<bool> {
+        let (mut touching, mut parted) = (cells.to_vec(), cells.to_vec());
+        let number = raw::reduce_line(k, clue, &mut touching);
+        let other = raw::reduce_line_by::<Placing<false>>(k, clue, &mut parted);
+        (k > 1 && number <= 3).then_some((number, touching) != (other, parted))
     }
 }
 

@@ -17,7 +17,7 @@ use oracle::{
 struct Row {
     numbers: Vec<u64>,
     answer: u8,
-    /// In two colours or more: whether it would come to something else if no two blocks might touch.
+    /// In two colours or more, and not refused: whether it would come to something else if no two blocks might touch.
     touching: Option<bool>,
 }
 
@@ -85,7 +85,7 @@ fn write_file(folder: &Path, name: &str, rows: &[Row]) -> Result<(), String> {
     if !coloured.is_empty() {
         let touching = coloured.iter().filter(|&&touching| touching).count();
         println!(
-            "  in two colours or more: {}, of which {touching} are other where no two blocks may touch",
+            "  in two colours or more: {}, of which {touching} come to something else where no two blocks may touch",
             coloured.len()
         );
         if touching * 3 < coloured.len() {
@@ -137,9 +137,7 @@ fn row_of_search((puzzle, outcome): &Search) -> Result<Row, String> {
     row.list(&outcome.cells);
     row.list(&outcome.grids().concat());
     row.number(answer.mends.into());
-    if puzzle.k > 1 && answer.number <= 3 {
-        row.touching = Some(!apart::run(puzzle).differences(outcome).is_empty());
-    }
+    row.touching = apart::differs(puzzle, outcome);
     Ok(row)
 }
 

@@ -1,5 +1,5 @@
 //! The mended search against all fitting grids, found by trying every colour of every cell in turn. A grid fits if each of its
-//! lines shows its clue: the runs of equal colours other than blank are, in order, the clue's blocks.
+//! lines shows its clue: the stretches of equal colours other than blank are, in order, the clue's blocks.
 
 use oracle::{
     generate::{any_kind, edited, misread, searching, sparse, Kind, Random},
@@ -37,20 +37,20 @@ fn extend(puzzle: &Puzzle, clues: &[Clue], cells: &mut Vec<u8>, grids: &mut Vec<
     }
 }
 
-/// Whether a whole line, of single colours, shows its clue; the beginning of a line, whether it may still come to that.
+/// Whether a whole line, of single colours, shows its clue; of the beginning of a line, whether it may still come to that.
 fn shows(line: &[u8], length: usize, clue: &[(u8, u8)]) -> bool {
     let mut shown: Clue = line
         .chunk_by(|a, b| a == b)
-        .filter(|run| run[0] != 1)
-        .map(|run| (run[0].trailing_zeros() as u8, run.len() as u8))
+        .filter(|stretch| stretch[0] != 1)
+        .map(|stretch| (stretch[0].trailing_zeros() as u8, stretch.len() as u8))
         .collect();
     if line.len() == length {
         return shown == clue;
     }
     let growing = line.last().is_some_and(|&last| last != 1);
     if growing {
-        // The last run may still grow into its block.
-        let (colour, cells) = shown.pop().expect("a run ends the line");
+        // The last stretch may still grow into its block.
+        let (colour, cells) = shown.pop().expect("a stretch ends the line");
         let block = clue.get(shown.len());
         if !block.is_some_and(|block| block.0 == colour && block.1 >= cells) {
             return false;

@@ -42,10 +42,9 @@ fn the_meaning_matters_in_every_third_coloured_puzzle() {
     let (mut coloured, mut other) = (0, 0);
     for _ in 0..3_000 {
         let puzzle = any_limits(&mut random, 6);
-        if puzzle.k > 1 {
+        if let Some(differs) = apart::differs(&puzzle, &puzzle.run(mended::solve)) {
             coloured += 1;
-            let differences = apart::run(&puzzle).differences(&puzzle.run(mended::solve));
-            other += usize::from(!differences.is_empty());
+            other += usize::from(differs);
         }
     }
     assert!(other * 3 > coloured, "{other} of {coloured}");
@@ -54,10 +53,12 @@ fn the_meaning_matters_in_every_third_coloured_puzzle() {
 #[test]
 fn one_colour_means_the_same() {
     let mut random = Random::new(8);
-    for _ in 0..1_000 {
+    let mut left = 300;
+    while left > 0 {
         let puzzle = any_limits(&mut random, 6);
         if puzzle.k == 1 {
             assert_eq!(apart::run(&puzzle), puzzle.run(mended::solve), "{puzzle}");
+            left -= 1;
         }
     }
 }

@@ -39,8 +39,8 @@ impl From<(u8, u8)> for Block {
 /// assert_eq!((coloured.width(), coloured.height(), coloured.colours()), (3, 2, 2));
 /// ```
 ///
-/// A line meets its clue if the runs of equal colours other than blank that it falls into are the clue's blocks, in order. So blocks of different colours
-/// may touch, and between two neighbouring blocks of the same colour there is a blank:
+/// A line meets its clue exactly if the stretches of equal colours other than blank that it falls into are the clue's blocks, in order. So blocks of
+/// different colours may touch, and between two neighbouring blocks of the same colour there is a blank:
 ///
 /// ```
 /// use belutharin::{solve, Limits, Puzzle};

@@ -47,7 +47,7 @@ below-same : (k c n : ℕ) → c < k → Below k (replicate n c)
 below-same k c zero h = tt
 below-same k c (suc n) h = (h, below-same k c n h)
 
--- what must stand between two blocks is a blank or nothing: all that the proofs know of it, but for the laws that `blanks_between` cites
+-- what must stand between two blocks is a blank or nothing: all that the proofs of this crate know of it, but for the laws that `blanks_between` cites
 pub between-blanks : (b : Block) (clue : Clue) → (n : ℕ) × (n ≤ 1) × (between b clue ≡ replicate n 0)
 between-blanks b clue = elim (between-cases b clue) [ inl e ↦ (0, omega arith, e) | inr e ↦ (1, omega arith, e) ]
 

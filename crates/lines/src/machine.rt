@@ -72,7 +72,7 @@ fn push_all(m: Machine, c: usize, n: usize) -> Machine
     r
 }
 
-// THE ONE PLACE where a blank is asked between two blocks: how many must stand between block j - 1 and the rest.
+// THE ONE PLACE where a blank is asked between two blocks: how many must stand between block j - 1 and the rest. One, if block j has the same colour.
 fn blanks_between(pairs: &[u8], j: usize) -> usize
     requires { ⌜ (0 < j) × (j ≤ length (now pairs) / 2) ⌝ }
     ensures { λ r. ⌜ replicate r 0 ≡ between (blockIn (now (pairs .entry)) (j - 1)) (restIn (now (pairs .entry)) j) ⌝ }
@@ -80,11 +80,9 @@ fn blanks_between(pairs: &[u8], j: usize) -> usize
     if j == pairs.len() / 2 {
         return 0;
     }
-    if pairs[2 * (j - 1)] == pairs[2 * j] {
-        1
-    } else {
-        0
-    }
+    let here = pairs[2 * (j - 1)];
+    let next = pairs[2 * j];
+    if here == next { 1 } else { 0 }
 }
 
 // The fewest cells that the clue needs.

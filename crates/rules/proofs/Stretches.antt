@@ -13,7 +13,7 @@ use borrow.Author.Tests.{eqb-true, eqb-false, eq-eqb, ne-eqb, lt-ltb, le-ltb, lt
 use Rattle.rules.specs.Lists.{keep, every}
 use Rattle.rules.specs.Sets.{Colour}
 use Rattle.rules.specs.Clues.{Block, Clue, allowed, regular}
-use Rattle.rules.specs.Lines.{cellsOf, between, Meets, nothing, blank, block, inFront, stretches, notBlank, blocksOf, MeetsExactly}
+use Rattle.rules.specs.Lines.{cellsOf, between, Meets, nothing, blank, block, inFront, stretches, notBlank, blocksOf, Shows, MeetsExactly}
 use Rattle.rules.specs.Boards.{lineCells}
 use Rattle.rules.specs.Answers.{Asked}
 use Rattle.rules.specs.Promises.{AllMeet, AllShow, Accepted, puzzleOf}
@@ -92,7 +92,7 @@ after-block b (next ∷ clue) line h e =
     (λ t. (blank-other (b .colour) (stretches line) h, blank-hidden (stretches line) ∙ e))
     (λ t. (other-first (b .colour) (stretches line) h (subst (Other (b .colour)) (sym e) (eqb-false (b .colour) (next .colour) t)), e))
 
-meets-shows : {clue : Clue} {line : List Colour} → Solid clue → Meets clue line → blocksOf line ≡ clue
+meets-shows : {clue : Clue} {line : List Colour} → Solid clue → Meets clue line → Shows clue line
 unfolding stretches
 meets-shows ok nothing = refl
 meets-shows ok (blank {line = line} m) = blank-hidden (stretches line) ∙ meets-shows ok m
@@ -110,19 +110,19 @@ laid [] = []
 laid (s ∷ more) = cellsOf s ++ laid more
 
 -- each has a cell, and the next has another colour
-abbrev Parted : List Block → Type 0
-Parted [] = Unit {0}
-Parted (s ∷ more) = (0 < s .cells) × Other (s .colour) more × Parted more
+abbrev Alternating : List Block → Type 0
+Alternating [] = Unit {0}
+Alternating (s ∷ more) = (0 < s .cells) × Other (s .colour) more × Alternating more
 
 front-laid : (c : Colour) (ss : List Block) → laid (inFront c ss) ≡ c ∷ laid ss
 front-laid c [] = refl
 front-laid c (s ∷ more) =
     on-test (λ l. laid l ≡ c ∷ laid (s ∷ more)) (eqb c (s .colour)) (λ e. ap (λ x. c ∷ (replicate (s .cells) x ++ laid more)) (eqb-true c (s .colour) e)) (λ e. refl)
 
-front-parted : (c : Colour) (ss : List Block) → Parted ss → Parted (inFront c ss)
-front-parted c [] p = (omega arith, tt, tt)
-front-parted c (s ∷ more) p =
-    on-test Parted (eqb c (s .colour))
+front-alternating : (c : Colour) (ss : List Block) → Alternating ss → Alternating (inFront c ss)
+front-alternating c [] p = (omega arith, tt, tt)
+front-alternating c (s ∷ more) p =
+    on-test Alternating (eqb c (s .colour))
     (λ e. (omega arith, subst (λ x. Other x more) (sym (eqb-true c (s .colour) e)) (p .1), p .2))
     (λ e. (omega arith, eqb-false c (s .colour) e, p))
 
@@ -131,10 +131,10 @@ unfolding stretches
 stretches-laid [] = refl
 stretches-laid (c ∷ line) = front-laid c (stretches line) ∙ ap (λ l. c ∷ l) (stretches-laid line)
 
-stretches-parted : (line : List Colour) → Parted (stretches line)
+stretches-alternating : (line : List Colour) → Alternating (stretches line)
 unfolding stretches
-stretches-parted [] = tt
-stretches-parted (c ∷ line) = front-parted c (stretches line) (stretches-parted line)
+stretches-alternating [] = tt
+stretches-alternating (c ∷ line) = front-alternating c (stretches line) (stretches-alternating line)
 
 -- a block, a blank stretch, and a line that meets the rest
 block-blanks : (s : Block) {clue : Clue} {line : List Colour} (n x : ℕ) → 0 < n → x ≡ 0 → Meets clue line → Meets (s ∷ clue) (cellsOf s ++ (replicate n x ++ line))
@@ -161,7 +161,7 @@ stretch-laid s more m k = on-test (λ clue. Meets clue (laid (s ∷ more))) (not
     (λ e. let l = ltb-false 0 (s .colour) e in let z : 0 ≡ s .colour = omega arith in
     subst (λ x. Meets (keep notBlank more) (replicate (s .cells) x ++ laid more)) z (blanks (s .cells) m))
 
-laid-meets : (ss : List Block) → Parted ss → Meets (keep notBlank ss) (laid ss)
+laid-meets : (ss : List Block) → Alternating ss → Meets (keep notBlank ss) (laid ss)
 laid-meets [] p = nothing
 laid-meets (s ∷ []) p = stretch-laid s [] nothing (block nothing)
 laid-meets (s ∷ z ∷ more) p =
@@ -169,7 +169,7 @@ laid-meets (s ∷ z ∷ more) p =
     stretch-laid s (z ∷ more) m (block-laid s z more (p .1) (p .2 .0) m (laid-meets more (p .2 .2)))
 
 shows-meets : (line : List Colour) → Meets (blocksOf line) line
-shows-meets line = subst (λ l. Meets (blocksOf line) l) (stretches-laid line) (laid-meets (stretches line) (stretches-parted line))
+shows-meets line = subst (λ l. Meets (blocksOf line) l) (stretches-laid line) (laid-meets (stretches line) (stretches-alternating line))
 
 -- ## Both
 
@@ -184,14 +184,15 @@ regular-solid k clue e = each clue (and-true (leb (length clue) 16) (every (allo
         let q = allowed-out k b (r .0) in
         (q .0, q .2, each clue (r .1))
 
-pub meets-exactly : (k : ℕ) (clue : Clue) (line : List Colour) → regular k clue ≡ true → MeetsExactly clue line
+pub meets-exactly : (k : ℕ) → MeetsExactly k
 meets-exactly k clue line e = (meets-shows (regular-solid k clue e), λ s. subst (λ c. Meets c line) s (shows-meets line))
 
--- a grid meets every clue of an accepted input exactly if every row and every column shows its clue's blocks
+-- where the input is accepted, every row and every column of a grid meets its clue exactly if each shows it
 pub all-shown : (a : Asked) (clues : List Clue) (colours : List Colour) → Accepted a clues → AllMeet (puzzleOf a clues) colours ↔ AllShow (puzzleOf a clues) colours
 all-shown a clues colours ok = (λ m i h. line i h .0 (m i h), λ s i h. line i h .1 (s i h))
   where
-    line : (i : ℕ) → i < a .h + a .w → MeetsExactly (getD clues i []) (map (λ c. getD colours c 0) (lineCells (puzzleOf a clues) i))
+    line : (i : ℕ) → i < a .h + a .w →
+        let l = map (λ c. getD colours c 0) (lineCells (puzzleOf a clues) i) in Meets (getD clues i []) l ↔ Shows (getD clues i []) l
     line i h =
         let r = cluesOf-exact (a .k) (a .h + a .w) (a .clues) clues .0 (ok .read) in
         meets-exactly (a .k) (getD clues i []) _ (every-out (regular (a .k)) clues (r .1) (getD-in clues i [] (omega (arith, r .0))))

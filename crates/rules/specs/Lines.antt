@@ -1,5 +1,5 @@
 -- Lines, what it is to meet a clue, and reducing. A line is a list of colours, or of the sets that its cells' colours are taken from.
--- First the meaning, as relations, and the same in the words of one who looks at a finished line: `proofs/Stretches.antt`. Then `fits` and `reduce`, which compute it: `proofs/Lines.antt`.
+-- First the meaning, as relations, then what is seen in a finished line, then `fits` and `reduce`, which compute. That all three say the same is proved in `proofs/Stretches.antt` and `proofs/Lines.antt`.
 use mathlib.Core.Path.{_≡_}
 use mathlib.Core.Bool.{Bool, true, false, _&&_}
 use mathlib.Core.List.{List, [], _∷_, _++_, map}
@@ -10,14 +10,14 @@ use lib.Dec.{eqb, ltb}
 use lib.ListN.{length, getD, set, replicate}
 use Rattle.rules.specs.Lists.{keep, from}
 use Rattle.rules.specs.Sets.{Colour, _∋_, has, setOf, only}
-use Rattle.rules.specs.Clues.{Block, Clue}
+use Rattle.rules.specs.Clues.{Block, Clue, regular}
 
 -- the cells of a block
 abbrev pub cellsOf : Block → List Colour
 cellsOf b = replicate (b .cells) (b .colour)
 
 -- THE ONE PLACE where a blank is asked between two blocks: what must stand between a block and the rest of the clue.
--- It is a blank where the next block has the same colour, and nothing where it has another.
+-- It is a blank where the next block has the same colour, and nothing where that has another colour or there is none.
 abbrev pub between : Block → Clue → List Colour
 between b [] = []
 between b (next ∷ clue) = elim (eqb (b .colour) (next .colour)) [ true ↦ 0 ∷ [] | false ↦ [] ]
@@ -31,7 +31,7 @@ pub data Meets : Clue → List Colour → Type 0 where
   blank : {clue : Clue} {line : List Colour} → Meets clue line → Meets clue (0 ∷ line)
   block : {b : Block} {clue : Clue} {line : List Colour} → Meets clue line → Meets (b ∷ clue) (cellsOf b ++ (between b clue ++ line))
 
--- ## The same, as it is seen in a finished line
+-- ## What is seen in a finished line
 
 -- a cell more in front of a line's stretches: it makes the first of them longer where that has its colour, and otherwise is a stretch of its own
 abbrev pub inFront : Colour → List Block → List Block
@@ -43,6 +43,7 @@ unfoldable pub stretches : List Colour → List Block
 stretches [] = []
 stretches (c ∷ line) = inFront c (stretches line)
 
+-- a stretch of some colour
 abbrev pub notBlank : Block → Bool
 notBlank s = ltb 0 (s .colour)
 
@@ -50,10 +51,13 @@ notBlank s = ltb 0 (s .colour)
 abbrev pub blocksOf : List Colour → Clue
 blocksOf line = keep notBlank (stretches line)
 
--- What a puzzle editor would say, in other words than `Meets`: a line meets its clue exactly if the blocks that it shows are the clue's, in order.
--- It holds of every line and every clue that the layout allows: `meets-exactly` of `proofs/Stretches.antt`.
-abbrev pub MeetsExactly : Clue → List Colour → Type 0
-MeetsExactly clue line = Meets clue line ↔ (blocksOf line ≡ clue)
+-- A line shows a clue when the blocks that it shows are the clue's, in order. This is how a puzzle editor would say that it meets the clue.
+abbrev pub Shows : Clue → List Colour → Type 0
+Shows clue line = blocksOf line ≡ clue
+
+-- The two are the same: of clues that the layout allows with k colours, a line meets exactly those that it shows. `meets-exactly` of `proofs/Stretches.antt` proves it for every k.
+abbrev pub MeetsExactly : ℕ → Type 0
+MeetsExactly k = (clue : Clue) (line : List Colour) → regular k clue ≡ true → Meets clue line ↔ Shows clue line
 
 -- ## Lines taken from sets
 
@@ -85,7 +89,7 @@ abbrev pub Reduces : Clue → List ℕ → Option (List ℕ) → Type 0
 Reduces clue sets none = Arranged clue sets → ⊥
 Reduces clue sets (some out) = Arranged clue sets × Reduced clue sets out
 
--- ## The same, computed
+-- ## The meaning, computed
 
 -- the sets have these colours, one after the other, and those left pass
 abbrev pub begins : List Colour → (List ℕ → Bool) → List ℕ → Bool

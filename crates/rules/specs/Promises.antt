@@ -9,7 +9,7 @@ use lib.ListN.{length, getD, take, drop}
 use lib.Dec.{leb, eqb}
 use Rattle.rules.specs.Sets.{Colour, has, setOf, only}
 use Rattle.rules.specs.Clues.{Clue, cluesOf, clueOf}
-use Rattle.rules.specs.Lines.{Meets, blocksOf, From, Reduces, reduce}
+use Rattle.rules.specs.Lines.{Meets, Shows, From, Reduces, reduce}
 use Rattle.rules.specs.Boards.{Board, Cell, at, solved, Puzzle, lineCount, rowOf, columnOf, lineCells, lineOf, clueAt}
 use Rattle.rules.specs.Propagation.{write, pend, propagate}
 use Rattle.rules.specs.Probing.{steps}
@@ -22,9 +22,9 @@ use Rattle.rules.specs.Answers.{side, colourCount, limits, board, Asked,
 abbrev pub AllMeet : Puzzle → List Colour → Type 0
 AllMeet z colours = (i : ℕ) → i < lineCount z → Meets (clueAt z i) (map (λ c. getD colours c 0) (lineCells z i))
 
--- every row and every column shows the blocks of its clue: the same, for the clues of an input that is accepted (`all-shown` of `proofs/Stretches.antt`)
+-- Every row and every column shows its clue. Where the input is accepted, this is the same (`all-shown` of `proofs/Stretches.antt`).
 abbrev pub AllShow : Puzzle → List Colour → Type 0
-AllShow z colours = (i : ℕ) → i < lineCount z → blocksOf (map (λ c. getD colours c 0) (lineCells z i)) ≡ clueAt z i
+AllShow z colours = (i : ℕ) → i < lineCount z → Shows (clueAt z i) (map (λ c. getD colours c 0) (lineCells z i))
 
 -- A fitting grid takes each cell's colour from those the given board allows and meets every clue.
 pub record Fits (z : Puzzle) (given grid : Board) : Type 0 where

@@ -24,7 +24,8 @@ pub trait LineSolver {
     fn meets(clue: &[Self::BlockType], cells: &[<Self::BlockType as Block>::Color]) -> bool;
 }
 
-/// The blanks that must stand between two neighbouring blocks: one where they have the same colour.
+/// The blanks that must stand between two neighbouring blocks: one where they have the same colour, and without `TOUCH` one in
+/// any case.
 fn blanks_between<const TOUCH: bool>(left: ColouredBlock, right: ColouredBlock) -> usize {
     usize::from(!TOUCH || left.colour == right.colour)
 }

@@ -39,11 +39,7 @@ fn line(k: usize, clue: &[u8], cells: &[u8]) -> Row {
     row.list(cells);
     row.answer(number);
     row.list(&after);
-    if k > 1 && number <= 3 {
-        let mut if_apart = cells.to_vec();
-        let other = apart::reduce_line(k, clue, &mut if_apart);
-        row.touching = Some((other, if_apart) != (number, after));
-    }
+    row.touching = apart::line_differs(k, clue, cells);
     row
 }
 
