@@ -43,19 +43,19 @@ unfoldable pub stretches : List Colour → List Block
 stretches [] = []
 stretches (c ∷ line) = inFront c (stretches line)
 
--- a stretch of some colour
+-- a stretch of a colour other than blank
 abbrev pub notBlank : Block → Bool
 notBlank s = ltb 0 (s .colour)
 
--- the blocks that a line shows: its stretches, without the blank ones
+-- the blocks that are seen in a line: its stretches, without the blank ones
 abbrev pub blocksOf : List Colour → Clue
 blocksOf line = keep notBlank (stretches line)
 
--- A line shows a clue when the blocks that it shows are the clue's, in order. This is how a puzzle editor would say that it meets the clue.
+-- A line shows a clue when its stretches, without the blank ones, are the clue's blocks in order. So would a puzzle editor say that the line meets the clue.
 abbrev pub Shows : Clue → List Colour → Type 0
 Shows clue line = blocksOf line ≡ clue
 
--- The two are the same: of clues that the layout allows with k colours, a line meets exactly those that it shows. `meets-exactly` of `proofs/Stretches.antt` proves it for every k.
+-- `Meets` and `Shows` agree: of the clues that the layout allows with k colours, a line meets exactly those that it shows. `meets-exactly` of `proofs/Stretches.antt` proves it for every k.
 abbrev pub MeetsExactly : ℕ → Type 0
 MeetsExactly k = (clue : Clue) (line : List Colour) → regular k clue ≡ true → Meets clue line ↔ Shows clue line
 
