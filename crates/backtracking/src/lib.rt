@@ -1,4 +1,6 @@
 // The search: nodes and guesses. The functions that stand in nonogrid's backtracking.rs bear its names.
+#![tactic(auto)]
+
 mod guess;
 mod node;
 mod nodes;

@@ -1,4 +1,6 @@
 // The public face: the search over a caller's bytes.
+#![tactic(auto)]
+
 mod answers;
 mod refusals;
 mod searching;

@@ -1,4 +1,6 @@
 // The functions for C, on numbers and lent bytes; c/belutharin.h declares them. A slice is two parameters of C's, a pointer and a length. A function gives back its number, and writes what else it gives back through pointers.
+#![tactic(auto)]
+
 ghost use Rattle.std.specs.Prelude.{◌≡◌, ◌*◌};
 ghost use Rattle.rules.specs.Answers.{solve, line, reduce_line, grid_of};
 ghost use Rattle.rules.specs.Promises.{Promised, LinePromised};

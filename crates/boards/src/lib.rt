@@ -1,4 +1,6 @@
 // The board, held by value: its rows and columns, propagating from a cell, and the final check.
+#![tactic(auto)]
+
 mod board;
 mod line;
 mod propagation;

@@ -1,4 +1,6 @@
 // Colours and cell numbers, each with a type of its own, and sets of colours as bytes.
+#![tactic(auto)]
+
 ghost use Rattle.std.specs.Prelude.{◌≡◌, ◌<◌};
 ghost use Rattle.rules.specs.Sets.{has, single, only, without};
 ghost use Rattle.cells.specs.Sets.{including};

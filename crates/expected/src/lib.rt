@@ -1,4 +1,6 @@
 // What is expected of a search, and whether it comes: the answer, every byte of the board and every byte of the list.
+#![tactic(auto)]
+
 use belutharin::Answer;
 
 // Each byte of a list before it is lent.

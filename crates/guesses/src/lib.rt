@@ -1,4 +1,6 @@
 // The guesses of a node: those that wait, and where they come from.
+#![tactic(auto)]
+
 mod choosing;
 mod refill;
 mod waiting;

@@ -1,4 +1,6 @@
 // Reducing a line: each cell keeps exactly the colours that it has in some line that meets the clue and takes each cell's colour from its set.
+#![tactic(auto)]
+
 mod layout;
 mod machine;
 mod reduction;

@@ -1,4 +1,6 @@
 // A round's notes, and the orders in which guesses are chosen from them.
+#![tactic(auto)]
+
 mod choosing;
 mod round;
 

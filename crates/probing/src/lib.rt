@@ -1,4 +1,6 @@
 // Probing: what comes of assuming each colour of a cell. The functions that stand in nonogrid's probing.rs bear its names.
+#![tactic(auto)]
+
 mod neighbours;
 mod probe;
 mod rounds;

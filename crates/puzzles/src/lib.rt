@@ -1,4 +1,6 @@
 // A puzzle read from the caller's bytes: the table of its lines' machines, and its board, which is given back in the end.
+#![tactic(auto)]
+
 mod board;
 mod table;
 

@@ -1,4 +1,6 @@
 // The queue of cells: a cell is pushed with a priority, and the cell that goes first is popped.
+#![tactic(auto)]
+
 ghost use Rattle.std.specs.Prelude.{◌≡◌, ◌≤◌, replicate};
 ghost use Rattle.std.proofs.Math.Option.{none};
 ghost use Rattle.rules.specs.Floats.{higher};

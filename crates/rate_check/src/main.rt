@@ -1,4 +1,5 @@
 // Prints rates with their bits, the refusals, and a sum over all 32,896 legal pairs of counts. What it must print is made by tools/rates.py from IEEE square roots.
+#![tactic(auto)]
 
 const OUT: i32 = 1;
 

@@ -1,4 +1,6 @@
 // The numbers that put cells in order, rates and priorities: f64, with each operation rounded once.
+#![tactic(auto)]
+
 mod roots;
 
 ghost use Rattle.std.specs.Prelude.{◌≡◌, ◌≤◌};

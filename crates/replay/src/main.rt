@@ -1,4 +1,6 @@
 // Replays the vectors, and prints how many there are of each kind and how many differ. Its input is the files of vectors/, one after the other: lines, rates, searches, refusals, parts.
+#![tactic(auto)]
+
 mod line_case;
 mod part_case;
 mod rate_case;

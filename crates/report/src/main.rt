@@ -1,4 +1,6 @@
 // Prints the answers to puzzles that are written here, each with its grids: first Twin, which has two, then the limits, then one puzzle for each other way in which a search can end.
+#![tactic(auto)]
+
 mod print;
 
 fn main() {

@@ -134,8 +134,8 @@ module _ (z : Puzzle) where
 
   pub fits-remove_all : {b g : Board} (c : Cell) (xs : List Colour) → at b c < 256 → Fits z b g → ((x : Colour) → In x xs → has (at g c) x ≡ false) → Fits z (remove_all b c xs) g
   unfolding remove_all
-  fits-remove_all c [] l f h = f
-  fits-remove_all {b} c (x ∷ xs) l f h = fits-remove_all c xs (sub_low c 256 (remove_sub b c x) l) (fits_remove c x l f (h x (Memᴰ.head refl))) (λ y m. h y (Memᴰ.tail m))
+  fits-remove_all {b = b} c [] l f h = f
+  fits-remove_all {b = b} c (x ∷ xs) l f h = fits-remove_all {b = remove b c x} c xs (sub_low c 256 (remove_sub b c x) l) (fits_remove c x l f (h x (Memᴰ.head refl))) (λ y m. h y (Memᴰ.tail m))
 
   -- ## Lines of a fitting grid
 

@@ -1,4 +1,5 @@
 // The sizes that the rules name, and the numbers given back, for the crates above.
+#![tactic(auto)]
 
 pub const LARGEST_SIDE: usize = 16;
 

@@ -1,4 +1,6 @@
 // Reading vectors: decimal numbers parted by anything else. A number past the end reads as 0, so that a text cut short shows as cases that differ.
+#![tactic(auto)]
+
 ghost use Rattle.std.specs.Prelude.{◌≤◌, length};
 
 // A number, and the place after it.

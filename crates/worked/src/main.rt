@@ -1,4 +1,6 @@
 // Runs the worked grids of docs/RULES.md that are left to a program, and prints whether what comes of each is what that page says.
+#![tactic(auto)]
+
 ghost use Rattle.std.specs.Prelude.{◌≤◌};
 
 use expected::{Expected, Question};
