@@ -13,7 +13,7 @@ use queues::Queue;
 use runs::{Limits, Stats};
 
 // A guess whose colour is set: dead, or the board and the queue to probe with.
-#[derive(Drop)]
+#[derive(Clone, Copy)]
 pub struct Guessed {
     pub dead: bool,
     pub board: Board,
@@ -58,7 +58,7 @@ pub fn set_guess(
 }
 
 // The probing inside a guess has ended: dead, or the board and the notes.
-#[derive(Drop)]
+#[derive(Clone, Copy)]
 pub struct ProbedGuess {
     pub dead: bool,
     pub board: Board,

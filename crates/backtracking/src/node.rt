@@ -16,7 +16,7 @@ use probing::run_unsolved;
 use runs::{Limits, Stats, limits_reached};
 
 // The board, the waiting guesses, whether this node itself has run probing, for each cell the colours guessed here that were not dead, and the counts of the run.
-#[derive(Drop)]
+#[derive(Clone, Copy)]
 pub struct Node {
     pub board: Board,
     pub guesses: Guesses,
@@ -26,7 +26,7 @@ pub struct Node {
 }
 
 // Whether the node is over, and dead; or the node to go on with.
-#[derive(Drop)]
+#[derive(Clone, Copy)]
 pub struct Turned {
     pub over: bool,
     pub dead: bool,
@@ -90,7 +90,7 @@ fn with_guesses(t: Node, guesses: Guesses) -> Node
 }
 
 // A node's own probing: whether it ends the node, and dead; the board, and the counts.
-#[derive(Drop)]
+#[derive(Clone, Copy)]
 pub struct OwnProbing {
     pub over: bool,
     pub dead: bool,
@@ -160,7 +160,7 @@ fn after_own(t: Node, guesses: Guesses, o: OwnProbing) -> Turned
 }
 
 // What comes of the next guess before it is tried: it is to be tried, or the node has turned.
-#[derive(Drop)]
+#[derive(Clone, Copy)]
 pub struct Begun {
     pub tries: bool,
     pub cell: CellNo,

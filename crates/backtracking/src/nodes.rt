@@ -14,7 +14,7 @@ use rules::MOST_WAITING;
 use runs::{Limits, Stats, limits_reached};
 
 // How a guess or a node ended: whether it is dead, the board as it left it, and the counts.
-#[derive(Drop)]
+#[derive(Clone, Copy)]
 pub struct Ended {
     pub dead: bool,
     pub board: Board,

@@ -7,7 +7,7 @@ use boards::Board;
 use runs::{Limits, Stats};
 
 // Whether the board met its clues, and the counts afterwards.
-#[derive(Drop)]
+#[derive(Clone, Copy)]
 pub struct Stored {
     pub ok: bool,
     pub stats: Stats,

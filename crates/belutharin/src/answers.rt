@@ -5,7 +5,7 @@ ghost use Rattle.belutharin.specs.Answers.{plain, counted};
 use runs::Stats;
 
 // 1 solved, 2 listed, 3 dead end, or the number of a refusal; the grids stored, the steps, how deep the search was, and the first limit met: 0 none, 1 grids, 2 steps, 3 depth.
-#[derive(Drop)]
+#[derive(Clone, Copy)]
 pub struct Answer {
     pub number: u8,
     pub grids: usize,

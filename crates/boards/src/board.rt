@@ -7,7 +7,7 @@ ghost use Rattle.boards.specs.Board.{board_of, Sized, SameSize, with_cells, with
 use cells::{CellNo, Colour};
 
 // w times h cells, each a set of colours, row by row from the start of the array.
-#[derive(Drop)]
+#[derive(Clone, Copy)]
 pub struct Board {
     pub w: usize,
     pub h: usize,

@@ -4,7 +4,7 @@ ghost use Rattle.rules.specs.Propagation.{write};
 ghost use Rattle.boards.specs.Line.{line_at, places, Reaches, differ_bits, differ_digit};
 
 // The first cell, how far apart the cells are, and how many there are.
-#[derive(Drop)]
+#[derive(Clone, Copy)]
 pub struct Line {
     pub start: usize,
     pub stride: usize,

@@ -12,14 +12,14 @@ use crate::table::machine_at;
 use cells::CellNo;
 
 // Whether a line was reduced, and bit j for each of its cells j that lost a colour.
-#[derive(Drop)]
+#[derive(Clone, Copy)]
 struct Narrowed {
     ok: bool,
     lost: u32,
 }
 
 // Whether there was no contradiction, and the board.
-#[derive(Drop)]
+#[derive(Clone, Copy)]
 pub struct Propagated {
     pub ok: bool,
     pub board: Board,

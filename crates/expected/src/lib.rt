@@ -7,7 +7,7 @@ use belutharin::Answer;
 pub const UNTOUCHED: u8 = 165;
 
 // What a search is asked besides the clue bytes, the cells and the list: the size, the number of colours and the limits.
-#[derive(Drop)]
+#[derive(Clone, Copy)]
 pub struct Question {
     pub w: usize,
     pub h: usize,
@@ -18,7 +18,7 @@ pub struct Question {
 }
 
 // The five numbers of an answer.
-#[derive(Drop)]
+#[derive(Clone, Copy)]
 pub struct Expected {
     pub number: u64,
     pub grids: u64,

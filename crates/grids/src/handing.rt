@@ -7,7 +7,7 @@ use lines::within;
 use rules::{ACCEPTED, GRID_REFUSED, LARGEST_SIDE, LIST_REFUSED, SIDES_REFUSED};
 
 // The number, and the part of the list; nothing of it where handing out is refused.
-#[derive(Drop)]
+#[derive(Clone, Copy)]
 pub struct Handed<'a> {
     pub number: u8,
     pub part: &'a [u8],

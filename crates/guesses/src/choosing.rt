@@ -17,7 +17,7 @@ use notes::Notes;
 use queues::Queue;
 
 // Cells in the order in which they are guessed: the first n.
-#[derive(Drop)]
+#[derive(Clone, Copy)]
 struct Cells {
     n: usize,
     cells: [u16; 256],

@@ -10,14 +10,14 @@ use cells::{CellNo, Colour};
 use rules::MOST_WAITING;
 
 // A cell and a colour for it.
-#[derive(Drop)]
+#[derive(Clone, Copy)]
 pub struct Guess {
     pub cell: CellNo,
     pub colour: Colour,
 }
 
 // Guesses that wait: those from place `head` on, the next one first.
-#[derive(Drop)]
+#[derive(Clone, Copy)]
 pub struct Guesses {
     pub head: usize,
     pub cells: [u16; MOST_WAITING],

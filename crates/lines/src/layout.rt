@@ -8,7 +8,7 @@ ghost use Rattle.lines.specs.Layout.{line_read, broken_line};
 use rules::LARGEST_SIDE;
 
 // Whether a line's layout is right, and where it ends: before byte `end`.
-#[derive(Drop)]
+#[derive(Clone, Copy)]
 pub struct LineRead {
     pub ok: bool,
     pub end: usize,

@@ -9,7 +9,7 @@ use rules::LARGEST_SIDE;
 const COLOURS: usize = 8;
 
 // See specs/Machines.antt: a mask of states for each colour, those in which a blank may stay, and those at the end.
-#[derive(Drop)]
+#[derive(Clone, Copy)]
 pub struct Machine {
     pub by: [u32; COLOURS],
     pub gap: u32,

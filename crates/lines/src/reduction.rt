@@ -7,7 +7,7 @@ use crate::machine::Machine;
 use rules::LARGEST_SIDE;
 
 // For each cell the states that its colours go on from, and for each cell and the end those that lead on to the end.
-#[derive(Drop)]
+#[derive(Clone, Copy)]
 struct Ways {
     goes: [u32; LARGEST_SIDE],
     ends: [u32; LARGEST_SIDE + 1],

@@ -15,7 +15,7 @@ use cells::{CellNo, Colour};
 use queues::Queue;
 
 // The largest and the smallest count of the colours passed, if any was.
-#[derive(Drop)]
+#[derive(Clone, Copy)]
 struct Extremes {
     any: bool,
     max: u8,
@@ -114,7 +114,7 @@ pub fn cell_order(notes: Notes, board: &[u8]) -> Queue
 }
 
 // The colour that solves most of those passed, if any was, and how many cells it newly solves.
-#[derive(Drop)]
+#[derive(Clone, Copy)]
 struct Most {
     found: bool,
     colour: Colour,
@@ -160,7 +160,7 @@ fn leader(s: u8, counts: [u8; COLOURS]) -> Most
 }
 
 // A cell's colours in the order in which they are guessed.
-#[derive(Drop)]
+#[derive(Clone, Copy)]
 pub struct Order {
     pub n: usize,
     pub colours: [u8; COLOURS],

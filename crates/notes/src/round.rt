@@ -10,7 +10,7 @@ use cells::CellNo;
 pub const COLOURS: usize = 8;
 
 // For each of n cells whether it was popped, its set, and at places of its own how many cells each colour newly solves.
-#[derive(Drop)]
+#[derive(Clone, Copy)]
 pub struct Notes {
     pub n: usize,
     pub seen: [u8; 256],
@@ -19,14 +19,14 @@ pub struct Notes {
 }
 
 // What was noted of a cell: its set, and how many cells each colour of it newly solves.
-#[derive(Drop)]
+#[derive(Clone, Copy)]
 pub struct Note {
     pub set: u8,
     pub counts: [u8; COLOURS],
 }
 
 // What comes of assuming each colour of a cell: the set of those that contradict, and how many cells each other colour newly solves.
-#[derive(Drop)]
+#[derive(Clone, Copy)]
 pub struct Impact {
     pub bad: u8,
     pub counts: [u8; COLOURS],

@@ -18,7 +18,7 @@ const NEIGHBOUR_OF_NEWLY_SOLVED: f64 = 10.0;
 const NEIGHBOUR_OF_CONTRADICTION: f64 = 20.0;
 
 // The cell on one side of a cell, if there is one.
-#[derive(Drop)]
+#[derive(Clone, Copy)]
 enum Neighbour {
     At(CellNo),
     Missing,

@@ -11,14 +11,14 @@ use boards::Board;
 use cells::{CellNo, Colour};
 
 // What assuming a colour comes to: how many cells are newly solved, or a contradiction.
-#[derive(Drop)]
+#[derive(Clone, Copy)]
 enum Assumed {
     Solves(u8),
     Contradiction,
 }
 
 // What assuming each colour of a cell comes to: the set of those that contradict, how many cells each other colour newly solves, and how many colours were assumed.
-#[derive(Drop)]
+#[derive(Clone, Copy)]
 pub struct Impact {
     pub bad: u8,
     pub counts: [u8; 8],

@@ -17,7 +17,7 @@ use notes::Notes;
 use queues::Queue;
 
 // Whether it is no contradiction, the board, and the queue with the neighbours pushed.
-#[derive(Drop)]
+#[derive(Clone, Copy)]
 pub struct Pushed {
     pub ok: bool,
     pub board: Board,
@@ -25,7 +25,7 @@ pub struct Pushed {
 }
 
 // The end of a run: whether it is no contradiction, the board, the last round's notes, and how many colours were assumed.
-#[derive(Drop)]
+#[derive(Clone, Copy)]
 pub struct Probed {
     pub ok: bool,
     pub board: Board,

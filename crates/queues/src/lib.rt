@@ -11,7 +11,7 @@ ghost use Rattle.queues.specs.Entries.{queue_at, entry, queue_of, best_of, Leads
 use cells::CellNo;
 
 // For each of n cells whether it waits, and with which priority: so each cell is held once.
-#[derive(Drop)]
+#[derive(Clone, Copy)]
 pub struct Queue {
     pub n: usize,
     pub waits: [u8; 256],
@@ -19,7 +19,7 @@ pub struct Queue {
 }
 
 // The cell that goes first, if any waits, and the queue without it.
-#[derive(Drop)]
+#[derive(Clone, Copy)]
 pub struct Popped {
     pub found: bool,
     pub cell: CellNo,
@@ -27,7 +27,7 @@ pub struct Popped {
 }
 
 // The waiting cell that goes first of those passed, if any waits, and its priority.
-#[derive(Drop)]
+#[derive(Clone, Copy)]
 pub struct Best {
     pub found: bool,
     pub cell: CellNo,

@@ -63,7 +63,7 @@ fn bits(max: u64, min: u64) -> u64 {
 }
 
 // How many pairs were summed, and their sum: each step takes 33 times the sum so far, and the bits of one more rate.
-#[derive(Drop)]
+#[derive(Clone, Copy)]
 struct Summary {
     pairs: u64,
     sum: u64,

@@ -16,7 +16,7 @@ const LARGEST_COUNT: u64 = 255;
 const RATE_REFUSED: u8 = 19;
 
 // The number given back, and the rate.
-#[derive(Drop)]
+#[derive(Clone, Copy)]
 pub struct Rated {
     pub number: u8,
     pub rate: f64,

@@ -31,7 +31,7 @@ pub fn root(max: u8, min: u8) -> f64
 }
 
 // A whole root, and what its square leaves.
-#[derive(Drop)]
+#[derive(Clone, Copy)]
 struct WholeRoot {
     root: u64,
     rest: u64,

@@ -49,7 +49,7 @@ fn room(lent: u64) -> usize
 }
 
 // A question, and the place after it.
-#[derive(Drop)]
+#[derive(Clone, Copy)]
 struct QuestionRead {
     question: Question,
     at: usize,
@@ -76,7 +76,7 @@ fn question(text: &[u8], from: usize) -> QuestionRead {
 }
 
 // An answer that is expected, and the place after it.
-#[derive(Drop)]
+#[derive(Clone, Copy)]
 struct AnswerRead {
     answer: Expected,
     at: usize,

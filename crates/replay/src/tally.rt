@@ -2,7 +2,7 @@
 const OUT: i32 = 1;
 
 // Whether a case agrees, and the place after it.
-#[derive(Drop)]
+#[derive(Clone, Copy)]
 pub struct Case {
     pub agrees: bool,
     pub at: usize,

@@ -3,7 +3,7 @@ ghost use Rattle.std.specs.Prelude.{◌≡◌, ◌+◌, ◌^◌, ◌<◌};
 ghost use Rattle.runs.specs.Stats.{limit_met, noted, stepped, deeper};
 
 // The most grids, the most depth, and the step budget.
-#[derive(Drop)]
+#[derive(Clone, Copy)]
 pub struct Limits {
     pub grids: usize,
     pub depth: usize,
@@ -11,7 +11,7 @@ pub struct Limits {
 }
 
 // Grids stored, steps, deepest, and the first limit met: 0 none, 1 grids, 2 steps, 3 depth.
-#[derive(Drop)]
+#[derive(Clone, Copy)]
 pub struct Stats {
     pub grids: usize,
     pub steps: u64,

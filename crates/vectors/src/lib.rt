@@ -4,7 +4,7 @@
 ghost use Rattle.std.specs.Prelude.{◌≤◌, length};
 
 // A number, and the place after it.
-#[derive(Drop)]
+#[derive(Clone, Copy)]
 pub struct Number {
     pub value: u64,
     pub at: usize,
@@ -50,7 +50,7 @@ pub fn next_number(text: &[u8], from: usize) -> Number {
 }
 
 // How many bytes were read, and the place after them.
-#[derive(Drop)]
+#[derive(Clone, Copy)]
 pub struct Bytes {
     pub n: usize,
     pub at: usize,
