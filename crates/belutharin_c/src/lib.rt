@@ -28,7 +28,7 @@ pub extern "C" fn belutharin_solve(
     deepest: &mut usize,
     limit: &mut u8,
 ) -> u8
-    ensures list_after { answer result grids.new steps.new deepest.new limit.new cells.new list.new
+    ensures answered { answer result grids.new steps.new deepest.new limit.new cells.new list.new
         ≡ solve (asked w h k most_grids most_depth budget clues.now cells.old list.old) }
     ensures promised { Promised (asked w h k most_grids most_depth budget clues.now cells.old list.old)
         (answer result grids.new steps.new deepest.new limit.new cells.new list.new) }
@@ -44,7 +44,7 @@ pub extern "C" fn belutharin_solve(
 // Reducing one line: its number, and after 1 the reduced sets in the cells.
 #[unsafe(no_mangle)]
 pub extern "C" fn belutharin_reduce_line(k: usize, clue: &[u8], cells: &mut [u8]) -> u8
-    ensures cells_after { line result cells.new ≡ reduce_line k clue.now cells.old }
+    ensures answered { line result cells.new ≡ reduce_line k clue.now cells.old }
     ensures promised { LinePromised k clue.now cells.old (line result cells.new) }
 {
     lines::reduce_line(k, clue, cells)
@@ -71,7 +71,7 @@ pub extern "C" fn belutharin_grid(
     start: &mut usize,
     size: &mut usize,
 ) -> u8
-    ensures size_after { part_at list.now result start.new size.new ≡ grid_of list.now w h n i }
+    ensures answered { part_at list.now result start.new size.new ≡ grid_of list.now w h n i }
     ensures placed { (start.new ≡ start_of result i (w * h)) × (size.new ≡ size_of result (w * h)) }
 {
     let number = grids::number(list, w, h, n, i);

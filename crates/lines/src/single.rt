@@ -48,7 +48,7 @@ fn refusal(k: usize, clue: &[u8], cells: &[u8]) -> u8
 // 1, and the cells have the reduced sets; 3 at a contradiction; 12, 14, 15 where the colours, the clue or the cells are refused. After any number but 1 the cells are as they were.
 // The number and every cell are those of the rules, and they mean what `Reduces` says: the colours that are possible, or that no line is arranged.
 pub fn reduce_line(k: usize, clue: &[u8], cells: &mut [u8]) -> u8
-    ensures cells_after { line result cells.new ≡ reduce_line k clue.now cells.old }
+    ensures answered { line result cells.new ≡ reduce_line k clue.now cells.old }
     ensures promised { LinePromised k clue.now cells.old (line result cells.new) }
 {
     let refused = refusal(k, clue, cells);
