@@ -8,6 +8,7 @@ use native.Mathlib.Omega.{arith}
 use lib.ListN.{length, length-map, length-set, get_or, get_or-replicate, set, replicate, drop, drop_of_length-le}
 use lib.Seq.{drop-cons, get_or-set_same, get_or-set_other, set_out}
 use lib.Ieee.{Float, nan}
+use borrow.Author.Rules.{rules}
 use mir.Val.{Val}
 use denote.Laws.{Is}
 use denote.Struct.Declared.{row}
@@ -28,7 +29,7 @@ pub record Long (q : Queue) : Type 0 where
   pub priority : length q.priority ≡ 256
 
 pub long : (q : Queue) (vs : List Val) → Is (row queue.the_type) q vs → Long q
-long q vs p = record { waits = sym (length-map q.waits (λ x. x)) ∙ p.1.1.1.0.1.0.1; priority = sym (length-map q.priority (λ x. x)) ∙ p.1.1.1.1.0.1.0.1 }
+long q vs p = record { waits = search rules; priority = search rules }
 
 pub queue_length : (q : Queue) → length (queue_of q) ≡ q.n
 unfolding queue_of

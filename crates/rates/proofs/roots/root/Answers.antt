@@ -1,0 +1,63 @@
+-- A quotient of 0 or 1 is the definition's root of itself (`short_root`). Any other times 2 ^ 54 is a whole number, `digits` gives its root, and the doubled root with its last digit, rounded and
+-- divided, is the definition's root (`root_found`). That root is the nearest (`quotient_nearest`).
+use Rattle.std.proofs.Common.{◌≡◌, ℕ, ◌+◌, ◌*◌, ◌^◌, ◌≤◌, sym, ap, ◌∙◌, subst, inl, inr, arith, le→leb}
+use lib.Ieee.{Float, binary64, div, in_float, of_bits, of_int}
+use Rattle.rules.specs.Floats.{float, quotient, root}
+use Rattle.rules.specs.Roots.{Nearest}
+use Rattle.rules.proofs.Roots.{sticky_le}
+use Rattle.rules.proofs.Rates.{quotient_nearest}
+use Rattle.rates.proofs.Scaled.{power, units_of, units_few, units_whole, root_found}
+use Rattle.rates.proofs.Short.{short_root}
+use Rattle.rates.proofs.roots.root.Goals as goal
+use Rattle.rates.proofs.roots.root.Goals.{then-quotient-via-then-quotient, then-quotient-via-else-quotient+then-quotient-2, After-truncating_f64_to_u64-units, Start}
+
+few : (c : Start) → c.args.max ≤ 255
+few c = omega arith
+
+-- the definition's root is also the nearest
+both : (c : Start) {r : Float} → let q = quotient c.args.max c.args.min in r ≡ root q → (r ≡ root q) × Nearest q r
+both c is =
+    let max = c.args.max in
+    let min = c.args.min in
+    (is, subst (Nearest (quotient max min)) (sym is) (quotient_nearest max min (few c) c.requires))
+
+pub int_to_float-quotient-2 : goal.int_to_float-quotient-2
+unfolding in_float
+int_to_float-quotient-2 c = le→leb (c.args.min + 1) (2 ^ 53) (omega arith)
+
+pub returns-then-quotient : goal.returns-then-quotient
+unfolding of_bits of_int
+returns-then-quotient c =
+    let b = both (goal.at.returns-then-quotient c).Start (short_root c.args.max c.args.min (few (goal.at.returns-then-quotient c).Start) c.requires (elim c.then-quotient.branch [
+      | then-quotient-via-then-quotient w ↦ inl w.if-quotient.true
+      | then-quotient-via-else-quotient+then-quotient-2 w ↦ inr w.if-quotient-2.true
+    ])) in
+    record { value = b.0; nearest = b.1 }
+
+pub truncating_f64_to_u64-units-requires : goal.truncating_f64_to_u64-units-requires
+unfolding of_bits
+truncating_f64_to_u64-units-requires c =
+    let whole = units_whole c.args.max c.args.min (few (goal.at.truncating_f64_to_u64-units-requires c).Start) c.requires in
+    record { lower_bound = whole.above; upper_bound = whole.below }
+
+-- the units that are asked for are the quotient's
+counted : (c : After-truncating_f64_to_u64-units) → c.truncating_f64_to_u64-units.result ≡ units_of c.before.before.before.before.before.before.args.max c.before.before.before.before.before.before.args.min (few c.before.before.before.before.before.before) c.before.before.before.before.before.before.requires
+unfolding of_bits
+counted c =
+    c.truncating_f64_to_u64-units.ensures ∙ (units_whole c.before.before.before.before.before.before.args.max c.before.before.before.before.before.before.args.min (few c.before.before.before.before.before.before) c.before.before.before.before.before.before.requires).is
+
+pub digits-found-requires : goal.digits-found-requires
+digits-found-requires c =
+    omega (arith, counted (goal.at.digits-found-requires c).After-truncating_f64_to_u64-units, units_few c.args.max c.args.min (few (goal.at.digits-found-requires c).Start) c.requires)
+
+pub overflow_add-doubled : goal.overflow_add-doubled
+overflow_add-doubled c = omega (arith, sticky_le c.digits-found.result.rest)
+
+pub returns : goal.returns
+unfolding of_bits
+returns c =
+    let doubled = ap (λ (s : ℕ). float (c.digits-found.result.root * 2 + s)) c.sticky.ensures in
+    let b = both (goal.at.returns c).Start
+    (ap (λ (x : Float). div binary64 x (power 55)) (c.nearest_u64_to_f64.ensures ∙ doubled)
+    ∙ root_found c.args.max c.args.min (few (goal.at.returns c).Start) c.requires _ _ _ (counted (goal.at.returns c).After-truncating_f64_to_u64-units) c.digits-found.ensures) in
+    record { value = b.0; nearest = b.1 }
