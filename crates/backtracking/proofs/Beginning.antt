@@ -24,7 +24,7 @@ use Rattle.guesses.specs.Waiting.{guesses_of, next, Waiting, Rest}
 use Rattle.guesses.specs.Made.{Made}
 use Rattle.backtracking.specs.Parts.{Own, ends, goes, own_probing, after_own, Before, turned, tries, lone_guess, before}
 use Rattle.backtracking.specs.Setting.{Setting, RunIs, TurnTo}
-use Rattle.backtracking.specs.Contracts.{OwnTo, ProbesNode, BeforeTo, Begins}
+use Rattle.backtracking.specs.Comes.{OwnTo, ProbesNode, BeforeTo, Begins}
 use Rattle.backtracking.specs.declared.node.Node.{Node}
 use Rattle.backtracking.specs.declared.node.Turned.{Turned}
 use Rattle.backtracking.specs.declared.node.OwnProbing.{OwnProbing}

@@ -26,7 +26,7 @@ use Rattle.guesses.specs.Waiting.{guesses_of, Waiting, IfRoom}
 use Rattle.guesses.specs.Made.{Made}
 use Rattle.backtracking.specs.Parts.{is_dead, Own, ends, goes, own_probing, after_own, after}
 use Rattle.backtracking.specs.Setting.{Setting, RunIs, Fine, Few, Stands, TurnTo}
-use Rattle.backtracking.specs.Contracts.{OwnTo, ProbesNode, Ends}
+use Rattle.backtracking.specs.Comes.{OwnTo, ProbesNode, Ends}
 use Rattle.backtracking.specs.declared.node.Node.{Node}
 use Rattle.backtracking.specs.declared.node.Turned.{Turned}
 use Rattle.backtracking.specs.declared.node.OwnProbing.{OwnProbing}

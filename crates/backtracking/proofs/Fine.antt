@@ -33,7 +33,7 @@ use Rattle.runs.specs.declared.limits.Limits.{Limits as Given}
 use Rattle.runs.specs.Matches.{limits_of}
 use Rattle.backtracking.specs.Parts.{Went, died, went, after_set, set_guess, after_probe, probe_guess, refilled}
 use Rattle.backtracking.specs.Setting.{Setting, Fine, Few, NodeFine, SpentFine}
-use Rattle.backtracking.specs.Contracts.{depth_of, try_at}
+use Rattle.backtracking.specs.Comes.{depth_of, try_at}
 
 module _ {w h : ℕ} {masks : List ℕ} (g : Setting w h masks) where
   pub fine_long : {b : Board} → Fine g b → length b ≡ w * h

@@ -28,7 +28,7 @@ use Rattle.probing.specs.Neighbours.{OfSize}
 use Rattle.probing.specs.Probing.{ProbedTo, Probes}
 use Rattle.backtracking.specs.Parts.{Went, died, went, kept, after_set, set_guess, after_probe, probe_guess}
 use Rattle.backtracking.specs.Setting.{Setting, RunIs, WentTo}
-use Rattle.backtracking.specs.Contracts.{Stores, SetsGuess, ProbesGuess}
+use Rattle.backtracking.specs.Comes.{Stores, SetsGuess, ProbesGuess}
 use Rattle.backtracking.specs.declared.store.Stored.{Stored}
 use Rattle.boards.specs.declared.propagation.Propagated.{Propagated}
 use Rattle.probing.specs.declared.rounds.Probed.{Probed}

@@ -22,7 +22,7 @@ use Rattle.guesses.specs.declared.waiting.Guesses.{Guesses}
 use Rattle.probing.specs.Probing.{ProbedTo, Probes}
 use Rattle.backtracking.specs.Parts.{Went, died, went, checked_in, Own, ends, goes, own_of, own_probing}
 use Rattle.backtracking.specs.Setting.{Setting, RunIs, WentTo}
-use Rattle.backtracking.specs.Contracts.{Stores, OwnTo, ProbesNode}
+use Rattle.backtracking.specs.Comes.{Stores, OwnTo, ProbesNode}
 use Rattle.backtracking.specs.declared.store.Stored.{Stored}
 use Rattle.probing.specs.declared.rounds.Probed.{Probed}
 use Rattle.backtracking.specs.declared.node.Node.{Node}

@@ -21,7 +21,7 @@ use Rattle.runs.specs.Matches.{limits_of}
 use Rattle.guesses.proofs.Arrays.{guesses_length}
 use Rattle.backtracking.specs.Parts.{refilled}
 use Rattle.backtracking.specs.Setting.{Setting, NodeIs, NodeFine, PassTo, TurnTo}
-use Rattle.backtracking.specs.Contracts.{depth_of, try_at, NodeStands, Passes, Turns}
+use Rattle.backtracking.specs.Comes.{depth_of, try_at, NodeStands, Passes, Turns}
 use Rattle.backtracking.specs.declared.node.Node.{Node}
 use Rattle.backtracking.specs.declared.node.Turned.{Turned}
 use Rattle.backtracking.proofs.Boarding.{size_more, at_size, size_at}

@@ -20,7 +20,7 @@ use Rattle.guesses.specs.Waiting.{Waiting}
 use Rattle.guesses.specs.Made.{Made}
 use Rattle.backtracking.specs.Parts.{refilled}
 use Rattle.backtracking.specs.Setting.{Setting, SpentIs, SpentFine, RefillTo}
-use Rattle.backtracking.specs.Contracts.{Refills}
+use Rattle.backtracking.specs.Comes.{Refills}
 use Rattle.backtracking.specs.declared.node.Node.{Node}
 use Rattle.backtracking.specs.declared.node.Turned.{Turned}
 use Rattle.backtracking.proofs.Boarding.{size_same}

@@ -29,7 +29,7 @@ use Rattle.guesses.specs.Waiting.{Waiting}
 use Rattle.guesses.proofs.Closed.{made_none, covered, any_covered}
 use Rattle.backtracking.specs.Parts.{refilled}
 use Rattle.backtracking.specs.Setting.{Setting, RunIs, Fine, Few, LeftTo, NodeIs, SpentIs, NodeFine, SpentFine, PassTo, RefillTo}
-use Rattle.backtracking.specs.Contracts.{depth_of, Refills, NodeStands, SearchStands, Searches, Passes}
+use Rattle.backtracking.specs.Comes.{depth_of, Refills, NodeStands, SearchStands, Searches, Passes}
 use Rattle.backtracking.specs.declared.node.Node.{Node}
 use Rattle.backtracking.specs.declared.node.Turned.{Turned}
 use Rattle.backtracking.specs.declared.nodes.Ended.{Ended}

@@ -19,7 +19,7 @@ use Rattle.runs.proofs.Matches.{added_matches}
 use Rattle.boards.specs.Table.{Table}
 use Rattle.backtracking.specs.Parts.{Went, checked_in, kept}
 use Rattle.backtracking.specs.Setting.{Setting, RunIs, WentTo}
-use Rattle.backtracking.specs.Contracts.{Stores}
+use Rattle.backtracking.specs.Comes.{Stores}
 use Rattle.backtracking.specs.declared.store.Stored.{Stored}
 use Rattle.backtracking.proofs.Boarding.{of_size}
 

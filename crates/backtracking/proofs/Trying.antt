@@ -29,7 +29,7 @@ use Rattle.guesses.specs.Waiting.{Waiting, IfRoom}
 use Rattle.notes.specs.Round.{notes_of}
 use Rattle.backtracking.specs.Parts.{Went, died, went, set_guess, probe_guess}
 use Rattle.backtracking.specs.Setting.{Setting, RunIs, Fine, Few, WentTo, LeftTo, TriedTo}
-use Rattle.backtracking.specs.Contracts.{SetsGuess, ProbesGuess, depth_of, try_at, SearchStands, GuessStands, Searches, Tries}
+use Rattle.backtracking.specs.Comes.{SetsGuess, ProbesGuess, depth_of, try_at, SearchStands, GuessStands, Searches, Tries}
 use Rattle.backtracking.specs.declared.guess.Guessed.{Guessed}
 use Rattle.backtracking.specs.declared.guess.ProbedGuess.{ProbedGuess}
 use Rattle.backtracking.specs.declared.nodes.Ended.{Ended}

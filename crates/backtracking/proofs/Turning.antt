@@ -28,7 +28,7 @@ use Rattle.guesses.specs.Waiting.{Waiting}
 use Rattle.guesses.proofs.Arrays.{guesses_length}
 use Rattle.backtracking.specs.Parts.{Before, turned, tries, lone_guess, before, after, is_dead}
 use Rattle.backtracking.specs.Setting.{Ready, Setting, RunIs, Fine, Few, TriedTo, Stands, NodeIs, NodeFine, TurnTo}
-use Rattle.backtracking.specs.Contracts.{BeforeTo, Begins, Ends, depth_of, NodeStands, GuessStands, Tries, Turns}
+use Rattle.backtracking.specs.Comes.{BeforeTo, Begins, Ends, depth_of, NodeStands, GuessStands, Tries, Turns}
 use Rattle.backtracking.specs.declared.node.Node.{Node}
 use Rattle.backtracking.specs.declared.node.Turned.{Turned}
 use Rattle.backtracking.specs.declared.node.Begun.{Begun}

@@ -2,7 +2,7 @@
 ghost use Rattle.std.specs.Prelude.{◌≡◌, ◌*◌, ◌<◌};
 ghost use Rattle.queues.specs.Entries.{queue_of};
 ghost use Rattle.backtracking.specs.Setting.{Ready};
-ghost use Rattle.backtracking.specs.Contracts.{SetsGuess, ProbesGuess};
+ghost use Rattle.backtracking.specs.Comes.{SetsGuess, ProbesGuess};
 
 use crate::store::keep;
 use boards::Board;

@@ -6,7 +6,7 @@ ghost use Rattle.rules.specs.Answers.{most_waiting};
 ghost use Rattle.boards.specs.Board.{board_of, Sized};
 ghost use Rattle.runs.specs.Stats.{noted};
 ghost use Rattle.backtracking.specs.Setting.{Ready};
-ghost use Rattle.backtracking.specs.Contracts.{ProbesNode, Begins, Ends, Refills};
+ghost use Rattle.backtracking.specs.Comes.{ProbesNode, Begins, Ends, Refills};
 
 use crate::store::check_and_store;
 use boards::Board;

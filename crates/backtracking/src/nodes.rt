@@ -3,7 +3,7 @@ ghost use Rattle.std.specs.Prelude.{◌≡◌, false, ◌+◌, ◌*◌, ◌≤�
 ghost use Rattle.rules.specs.Answers.{most_waiting};
 ghost use Rattle.runs.specs.Stats.{noted};
 ghost use Rattle.backtracking.specs.Setting.{Ready};
-ghost use Rattle.backtracking.specs.Contracts.{NodeStands, SearchStands, GuessStands, Searches, Passes, Turns, Tries};
+ghost use Rattle.backtracking.specs.Comes.{NodeStands, SearchStands, GuessStands, Searches, Passes, Turns, Tries};
 
 use crate::guess::{probe_guess, set_guess};
 use crate::node::{Node, Turned, after_guess, before_guess, goes_on, refill};

@@ -1,7 +1,7 @@
 // A solved board is checked, and stored if it meets its clues.
 ghost use Rattle.backtracking.specs.Parts.{checked_in, kept};
 ghost use Rattle.backtracking.specs.Setting.{Ready};
-ghost use Rattle.backtracking.specs.Contracts.{Stores};
+ghost use Rattle.backtracking.specs.Comes.{Stores};
 
 use boards::Board;
 use runs::{Limits, Stats};

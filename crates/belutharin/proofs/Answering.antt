@@ -38,8 +38,8 @@ use Rattle.guesses.specs.declared.waiting.Guesses.{Guesses}
 use Rattle.guesses.specs.Waiting.{Waiting, IfRoom}
 use Rattle.backtracking.specs.declared.nodes.Ended.{Ended}
 use Rattle.backtracking.specs.Setting.{Ready, Setting, LeftTo}
-use Rattle.backtracking.specs.Contracts as Contracts
-use Rattle.backtracking.specs.Contracts.{depth_of, SearchStands}
+use Rattle.backtracking.specs.Comes as Comes
+use Rattle.backtracking.specs.Comes.{depth_of, SearchStands}
 use Rattle.backtracking.proofs.Boarding.{of_size, sized_on, size_cells}
 use Rattle.belutharin.specs.Answers.{asked, answer, plain, counted, Checks, Given, Searches}
 use Rattle.belutharin.specs.declared.answers.Answer.{Answer}
@@ -187,7 +187,7 @@ module _ (b : Board) (masks cells list : List ℕ) (l : Limits) (y : Given b mas
               few = few_at z i;
             }
 
-        module _ (open-still : solved (board_of p.board) ≡ false) (e : Ended) (out : List ℕ) (s : Contracts.Searches p.board waiting masks list l (l.depth + 1) zeros e out) where
+        module _ (open-still : solved (board_of p.board) ≡ false) (e : Ended) (out : List ℕ) (s : Comes.Searches p.board waiting masks list l (l.depth + 1) zeros e out) where
           -- what the search leaves
           abbrev End : (z : Puzzle) → Table z b.w b.h masks → Left → Type 0
           End z t v = LeftTo (setting z t) e.dead e.board e.stats out v

@@ -6,6 +6,7 @@ use native.Mathlib.Nat.{mul-le-mul}
 use native.Mathlib.Omega.{arith}
 use lib.ListN.{length, length-map}
 use lib.Seq.{length-take-le}
+use borrow.Author.Rules.{rules}
 use mir.Val.{Val}
 use denote.Laws.{Is}
 use denote.Struct.Declared.{row}
@@ -19,7 +20,7 @@ use Rattle.boards.specs.contracts.board.Board as board
 
 -- a board that a function is passed, or is returned, has 256 cells in its array
 pub board_cells : (b : Board) (vs : List Val) → Is (row board.the_type) b vs → length b.cells ≡ 256
-board_cells b vs p = sym (length-map b.cells (λ x. x)) ∙ p.1.1.1.1.0.1.0.1
+board_cells b vs p = search rules
 
 pub few_cells : (b : Board) → Sized b → b.w * b.h ≤ 256
 few_cells b s = mul-le-mul s.narrow s.low
@@ -29,7 +30,7 @@ board_length b s e = length-take-le (b.w * b.h) b.cells (omega (arith, few_cells
 
 -- and a machine eight masks
 pub machine_masks : (m : Machine) (vs : List Val) → Is (row machine.the_type) m vs → length m.by ≡ 8
-machine_masks m vs p = sym (length-map m.by (λ x. x)) ∙ p.1.1.0.1.0.1
+machine_masks m vs p = search rules
 
 -- a fact at a puzzle's size is one at its table's
 pub at_size : {z : Puzzle} {w h : ℕ} {masks : List ℕ} → Table z w h masks → (P : ℕ → ℕ → Type 0) → P z.width z.height → P w h

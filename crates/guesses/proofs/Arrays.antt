@@ -6,6 +6,7 @@ use Prim.Native.Nat.{ℕ, ◌+◌, ◌-◌, ◌≤◌, ◌<◌}
 use native.Mathlib.Omega.{arith}
 use lib.ListN.{length, length-map, length-set, set}
 use lib.Seq.{get_or-set_same, get_or-set_other}
+use borrow.Author.Rules.{rules}
 use mir.Val.{Val}
 use denote.Laws.{Is}
 use denote.Struct.Declared.{row}
@@ -25,7 +26,7 @@ pub record Long (g : Guesses) : Type 0 where
   pub colours : length g.colours ≡ most_waiting
 
 pub long : (g : Guesses) (vs : List Val) → Is (row guesses.the_type) g vs → Long g
-long g vs p = record { cells = sym (length-map g.cells (λ x. x)) ∙ p.1.1.1.0.1.0.1; colours = sym (length-map g.colours (λ x. x)) ∙ p.1.1.1.1.0.1.0.1 }
+long g vs p = record { cells = search rules; colours = search rules }
 
 pub guesses_length : (g : Guesses) → length (guesses_of g) ≡ most_waiting - g.head
 unfolding guesses_of

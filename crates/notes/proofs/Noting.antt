@@ -7,6 +7,7 @@ use native.Mathlib.Numerals.{add-one}
 use native.Mathlib.Omega.{arith}
 use lib.ListN.{length, length-map, get_or, get_or-replicate, set, replicate, get_or-eq_default}
 use lib.Seq.{paste, paste-zero, paste-suc, get_or-set_same, get_or-set_other, set_out}
+use borrow.Author.Rules.{rules}
 use mir.Val.{Val}
 use denote.Laws.{Is}
 use denote.Struct.Declared.{row}
@@ -28,9 +29,9 @@ pub record Long (ns : Notes) : Type 0 where
 
 pub long : (ns : Notes) (vs : List Val) → Is (row notes.the_type) ns vs → Long ns
 long ns vs p = record {
-  seen = sym (length-map ns.seen (λ x. x)) ∙ p.1.1.1.0.1.0.1;
-  sets = sym (length-map ns.sets (λ x. x)) ∙ p.1.1.1.1.0.1.0.1;
-  counts = sym (length-map ns.counts (λ x. x)) ∙ p.1.1.1.1.1.0.1.0.1;
+  seen = search rules;
+  sets = search rules;
+  counts = search rules;
 }
 
 pub notes_length : (ns : Notes) → length (notes_of ns) ≡ ns.n

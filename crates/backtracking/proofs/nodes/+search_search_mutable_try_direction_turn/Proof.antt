@@ -11,7 +11,7 @@ use lib.ListN.{length}
 use Rattle.boards.specs.Board.{Sized, SameSize}
 use Rattle.runs.specs.declared.limits.Stats.{Stats}
 use Rattle.runs.specs.Stats.{limit_met}
-use Rattle.backtracking.specs.Contracts.{depth_of, NodeStands}
+use Rattle.backtracking.specs.Comes.{depth_of, NodeStands}
 use Rattle.backtracking.specs.declared.node.Node.{Node}
 use Rattle.backtracking.proofs.Boarding.{size_more, sized_on, size_at, ready_on}
 use Rattle.backtracking.proofs.Asking.{limit_none}
