@@ -17,7 +17,7 @@ use Rattle.boards.specs.contracts.board.Board as board
 use Rattle.probing.specs.declared.rounds.Pushed.{Pushed}
 use Rattle.probing.specs.contracts.rounds.Pushed as pushed
 
-bytes : (l : List ℕ) (vs : List Val) → shadow (each ℕ (UInt w8).own_val (map (λ x. x) l) vs) → (j : ℕ) → get_or l j 0 < 256
+bytes : (l : List ℕ) (vs : List Val) → shadow (each ℕ (UInt w8).own_val l vs) → (j : ℕ) → get_or l j 0 < 256
 bytes [] vs p j = omega arith
 bytes (x ∷ l) [] p j = absurd p
 bytes (x ∷ l) (v ∷ vs) p zero = p.0.1

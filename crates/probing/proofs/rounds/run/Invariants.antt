@@ -1,0 +1,10 @@
+-- The invariant: for every puzzle of the table and every run before, the rules' run of probing from the start is that from here on, with the steps that were counted.
+-- A turn is a step of the rules, in one of its ways. The measure is that of the rules' loop, which falls with each step; so the steps stay few.
+use Rattle.probing.proofs.Running.{measured, Running}
+use Rattle.probing.proofs.rounds.run.Given as goal
+
+abbrev pub invariant-loop-q : goal.invariant-loop-q
+invariant-loop-q l = Running l.initial.b l.initial.q l.masks l.b l.q l.notes l.steps
+
+abbrev pub decreases-loop-q : goal.decreases-loop-q
+decreases-loop-q l = measured l.b l.q
