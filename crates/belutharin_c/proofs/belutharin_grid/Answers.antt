@@ -12,10 +12,10 @@ use Rattle.belutharin_c.proofs.belutharin_grid.Goals.{Else-number-ne-ACCEPTED}
 pub returns-then-number-ne-ACCEPTED : goal.returns-then-number-ne-ACCEPTED
 returns-then-number-ne-ACCEPTED c =
     let a = c.args in
-    let r = c.number-number in (
-      together a.list.now a.w a.h a.n a.i r.result [] r.ensures (nothing a.list.now a.w a.h a.n a.i r.result r.ensures c.if-number-ne-ACCEPTED.true),
-      (start_refused r.result a.i (a.w * a.h) c.if-number-ne-ACCEPTED.true, size_refused r.result (a.w * a.h) c.if-number-ne-ACCEPTED.true),
-    )
+    let r = c.number-number in record {
+      answered = together a.list.now a.w a.h a.n a.i r.result [] r.ensures (nothing a.list.now a.w a.h a.n a.i r.result r.ensures c.if-number-ne-ACCEPTED.true);
+      placed = (start_refused r.result a.i (a.w * a.h) c.if-number-ne-ACCEPTED.true, size_refused r.result (a.w * a.h) c.if-number-ne-ACCEPTED.true);
+    }
 
 -- past the test the grid lies in the list
 ok : (c : Else-number-ne-ACCEPTED) → let a = c.before.before.before.args in Passed a.list.now a.w a.h a.n a.i
@@ -30,7 +30,7 @@ overflow_mul-start c = let a = c.args in omega (arith, part_inside a.list.now a.
 pub returns : goal.returns
 returns c =
     let a = c.args in
-    let r = c.number-number in (
-      together a.list.now a.w a.h a.n a.i r.result _ r.ensures (part_is a.list.now a.w a.h a.n a.i (ok (goal.at.returns c).Else-number-ne-ACCEPTED)),
-      (ap (λ k. start_of k a.i (a.w * a.h)) (sym c.if-number-ne-ACCEPTED.false), ap (λ k. size_of k (a.w * a.h)) (sym c.if-number-ne-ACCEPTED.false)),
-    )
+    let r = c.number-number in record {
+      answered = together a.list.now a.w a.h a.n a.i r.result _ r.ensures (part_is a.list.now a.w a.h a.n a.i (ok (goal.at.returns c).Else-number-ne-ACCEPTED));
+      placed = (ap (λ k. start_of k a.i (a.w * a.h)) (sym c.if-number-ne-ACCEPTED.false), ap (λ k. size_of k (a.w * a.h)) (sym c.if-number-ne-ACCEPTED.false));
+    }
