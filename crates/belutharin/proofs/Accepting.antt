@@ -12,7 +12,6 @@ use borrow.Author.Tests.{leb-true, ltb-true, lt-ltb}
 use Rattle.rules.specs.Lists.{every}
 use Rattle.rules.specs.Sets.{proper}
 use Rattle.rules.specs.Clues.{Clue, clues_of}
-use Rattle.rules.specs.Answers as Rules
 use Rattle.rules.specs.Answers.{side, most_colours, colour_count, limits, board, Asked, untouched, searched, solve}
 use Rattle.rules.proofs.Tests.{clash, and_true, true_and}
 use Rattle.rules.proofs.Lists.{every_out, every_in}

@@ -13,7 +13,6 @@ use Rattle.rules.specs.Propagation.{check}
 use Rattle.rules.specs.Probing as Probing
 use Rattle.rules.specs.Probing.{Run, contradiction, probed, probe, start_queue}
 use Rattle.rules.specs.Guesses.{choose}
-use Rattle.rules.specs.Search as Search
 use Rattle.rules.specs.Search.{Left, left, dead, not_dead, Outcome, solved_as, dead_end, fresh, answered, search, checked, begun, whole_run}
 use Rattle.rules.specs.Answers as Rules
 use Rattle.rules.specs.Answers.{most_colours, answer_of, written}

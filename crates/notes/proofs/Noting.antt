@@ -5,7 +5,7 @@ use mathlib.Core.Option.{Option, none, some}
 use Prim.Native.Nat.{ℕ, zero, suc, ◌+◌, ◌*◌, ◌≤◌, ◌<◌}
 use native.Mathlib.Numerals.{add-one}
 use native.Mathlib.Omega.{arith}
-use lib.ListN.{length, length-map, get_or, get_or-replicate, set, replicate, get_or-eq_default}
+use lib.ListN.{length, get_or, get_or-replicate, set, replicate, get_or-eq_default}
 use lib.Seq.{paste, paste-zero, paste-suc, get_or-set_same, get_or-set_other, set_out}
 use borrow.Author.Rules.{rules}
 use mir.Val.{Val}

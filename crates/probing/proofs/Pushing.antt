@@ -9,7 +9,7 @@ use lib.Ieee.{Float}
 use lib.Seq.{length-take-le}
 use Rattle.rules.specs.Lists.{keep, from, joined}
 use Rattle.rules.specs.Sets.{single}
-use Rattle.rules.specs.Boards.{Cell, at, newly, Puzzle, around}
+use Rattle.rules.specs.Boards.{Cell, newly, Puzzle, around}
 use Rattle.rules.specs.Floats.{float}
 use Rattle.rules.specs.Probing.{push_all, push_around, push_both}
 use Rattle.rules.proofs.Tests.{by_test}

@@ -37,7 +37,6 @@ use Rattle.notes.specs.declared.round.Notes.{Notes}
 use Rattle.notes.specs.Round.{each_of, notes_of, Says}
 use Rattle.probing.specs.declared.probe.Impact.{Impact}
 use Rattle.probing.specs.declared.rounds.Pushed.{Pushed}
-use Rattle.probing.specs.declared.rounds.Probed.{Probed}
 use Rattle.probing.specs.Probing.{Impacts, propagate_point, cut_colours, PushedTo, Pushes, ProbedTo, Probes}
 use Rattle.probing.proofs.Frames.{same_refl, same_trans, same_sized, same_cells, table_same, at_cell}
 

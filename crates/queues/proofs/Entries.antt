@@ -5,7 +5,7 @@ use mathlib.Core.List.{List}
 use mathlib.Core.Option.{Option, none, some}
 use Prim.Native.Nat.{ℕ, zero, suc, ◌+◌, ◌≤◌, ◌<◌}
 use native.Mathlib.Omega.{arith}
-use lib.ListN.{length, length-map, length-set, get_or, get_or-replicate, set, replicate, drop, drop_of_length-le}
+use lib.ListN.{length, length-set, get_or, get_or-replicate, set, replicate, drop, drop_of_length-le}
 use lib.Seq.{drop-cons, get_or-set_same, get_or-set_other, set_out}
 use lib.Ieee.{Float, nan}
 use borrow.Author.Rules.{rules}

@@ -5,4 +5,3 @@ use Rattle.cells.proofs.is_solved.Goals as goal
 
 pub returns : goal.returns
 returns c = ones_single c.args.s (omega arith)
-

@@ -1,5 +1,5 @@
 -- The root of 2, and what is farther from it: the f64s next to it on either side, a number below zero, and zero; and that those next to it are no nearer.
-use Rattle.std.specs.Prelude.{◌≡◌, refl, true, false, ◌<◌, pos, negsuc, Float}
+use Rattle.std.specs.Prelude.{◌≡◌, refl, true, false, pos, negsuc, Float}
 use Rattle.std.proofs.Common.{inl, inr, lt→ltb, lit<}
 use Rattle.std.specs.Float.{fin}
 use Rattle.rules.specs.Floats.{root}

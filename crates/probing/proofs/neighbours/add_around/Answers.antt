@@ -1,7 +1,5 @@
 -- Adding the unsolved cells of the four sides, one side after the other, adds the unsolved neighbours. Each side takes one place at most.
-use Prim.Native.Nat.{◌+◌, ◌≤◌}
 use native.Mathlib.Omega.{arith}
-use lib.ListN.{length}
 use Rattle.probing.specs.Neighbours.{Placed, board_at}
 use Rattle.probing.proofs.Frames.{placed}
 use Rattle.probing.proofs.Sides.{Four, add_four, room_left}

@@ -1,4 +1,3 @@
-use mathlib.Core.Logic.{⊎_elim}
 use mathlib.Core.Option.{some}
 use native.Mathlib.Omega.{arith}
 use Rattle.rules.specs.Queues.{push}

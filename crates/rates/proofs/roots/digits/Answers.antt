@@ -36,9 +36,9 @@ loop-i-smaller c = omega arith
 pub loop-i-preserved : goal.loop-i-preserved
 loop-i-preserved c =
     let inv = c.loop-i.invariant in
-    elim c.if-odd-more.branch [ 
-    | then-odd-more w ↦ rw (w.root-is, w.rest-is) (turned_one _ _ _ _ _ inv (omega arith) w.if-odd-more.true)
-    | else-odd-more w ↦ rw (w.root-is, w.rest-is) (turned_zero _ _ _ _ _ inv (omega arith) w.if-odd-more.false)
+    elim c.if-odd-more.branch [
+      | then-odd-more w ↦ rw (w.root-is, w.rest-is) (turned_one _ _ _ _ _ inv (omega arith) w.if-odd-more.true)
+      | else-odd-more w ↦ rw (w.root-is, w.rest-is) (turned_zero _ _ _ _ _ inv (omega arith) w.if-odd-more.false)
     ]
 
 pub returns : goal.returns
