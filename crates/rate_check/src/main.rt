@@ -1,59 +1,52 @@
 // Prints rates with their bits, the refusals, and a sum over all 32,896 legal pairs of counts. What it must print is made by tools/rates.py from IEEE square roots.
 #![tactic(auto)]
 
-const OUT: i32 = 1;
+use std::io;
 
-fn main() {
-    examples();
-    spread();
+fn main(rt: HostRuntime) -> io::Result<()> {
+    examples(&rt)?;
+    spread(&rt)?;
     let all = all_pairs();
-    io::print_decimal(OUT, all.pairs);
-    io::write_all(OUT, b"\t");
-    io::print_hex(OUT, all.sum, 16);
-    io::write_all(OUT, b"\n");
+    println!(rt; "{}\t{:016x}", all.pairs, all.sum)
 }
 
 // The worked rates, and pairs at the edge of what is refused.
-fn examples() {
-    line(4, 0);
-    line(9, 3);
-    line(0, 0);
-    line(255, 254);
-    line(255, 255);
-    line(255, 0);
-    line(256, 0);
-    line(3, 4);
-    line(0, 1);
-    line(18446744073709551615, 18446744073709551615);
+fn examples(rt: &impl Print) -> io::Result<()> {
+    line(rt, 4, 0)?;
+    line(rt, 9, 3)?;
+    line(rt, 0, 0)?;
+    line(rt, 255, 254)?;
+    line(rt, 255, 255)?;
+    line(rt, 255, 0)?;
+    line(rt, 256, 0)?;
+    line(rt, 3, 4)?;
+    line(rt, 0, 1)?;
+    line(rt, 18446744073709551615, 18446744073709551615)
 }
 
 // Four pairs for each of sixteen counts from 0 to 255.
-fn spread() {
+fn spread(rt: &impl Print) -> io::Result<()> {
     for max in 0..256 {
         if max % 17 == 0 {
-            four(max);
+            four(rt, max)?;
         }
     }
+    Ok(())
 }
 
 // Four pairs with one max: the smallest min, the largest, and two between.
-fn four(max: u64) {
-    line(max, 0);
-    line(max, max / 3);
-    line(max, max / 2);
-    line(max, max);
+fn four(rt: &impl Print, max: u64) -> io::Result<()> {
+    line(rt, max, 0)?;
+    line(rt, max, max / 3)?;
+    line(rt, max, max / 2)?;
+    line(rt, max, max)
 }
 
 // max, min, the number and the rate's bits.
-fn line(max: u64, min: u64) {
-    io::print_decimal(OUT, max);
-    io::write_all(OUT, b"\t");
-    io::print_decimal(OUT, min);
-    io::write_all(OUT, b"\t");
-    io::print_decimal(OUT, rates::rate(max, min).number as u64);
-    io::write_all(OUT, b"\t");
-    io::print_hex(OUT, bits(max, min), 16);
-    io::write_all(OUT, b"\n");
+fn line(rt: &impl Print, max: u64, min: u64) -> io::Result<()> {
+    let number = rates::rate(max, min).number;
+    let bits = bits(max, min);
+    println!(rt; "{max}\t{min}\t{number}\t{bits:016x}")
 }
 
 // The bits of a rate: it is never a NaN.

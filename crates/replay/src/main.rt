@@ -7,6 +7,8 @@ mod rate_case;
 mod search_case;
 mod tally;
 
+use std::io;
+use std::io::Read;
 use tally::Case;
 
 // The kinds of cases. Searches and refusals have one form.
@@ -21,32 +23,53 @@ const PART: u8 = 3;
 // The bytes of the longest list of which a part is asked.
 const ROOM: usize = 65536;
 
-fn main() {
-    let mut buffer = [0u8; 3145728];
-    let n = io::read_full(0, &mut buffer);
-    replay(&buffer[..n]);
+// The bytes of the longest input; what is past them is not read.
+const MOST_TEXT: u64 = 3145728;
+
+fn main(rt: HostRuntime) -> io::Result<()> {
+    let mut text = Vec::new(rt.alloc());
+    rt.reader().take(MOST_TEXT).read_to_end(&mut text)?;
+    replay(&rt, &text)
 }
 
 // The five files.
-fn replay(text: &[u8]) {
+fn replay(rt: &impl Print, text: &[u8]) -> io::Result<()> {
     let mut bytes = [0u8; ROOM];
     part_case::spread(&mut bytes);
-    let rates = all(text, 0, LINE, &bytes, b"line ", b" lines, ");
-    let searches = all(text, rates, RATE, &bytes, b"rate ", b" rates, ");
-    let refusals = all(text, searches, SEARCH, &bytes, b"search ", b" searches, ");
-    let parts = all(text, refusals, SEARCH, &bytes, b"refusal ", b" refusals, ");
-    all(text, parts, PART, &bytes, b"part ", b" parts, ");
+    let rates = all(rt, text, 0, LINE, &bytes, b"line ", b" lines, ")?;
+    let searches = all(rt, text, rates, RATE, &bytes, b"rate ", b" rates, ")?;
+    let refusals = all(
+        rt,
+        text,
+        searches,
+        SEARCH,
+        &bytes,
+        b"search ",
+        b" searches, ",
+    )?;
+    let parts = all(
+        rt,
+        text,
+        refusals,
+        SEARCH,
+        &bytes,
+        b"refusal ",
+        b" refusals, ",
+    )?;
+    all(rt, text, parts, PART, &bytes, b"part ", b" parts, ")?;
+    Ok(())
 }
 
 // All cases of a file that begins at a place; the place after them.
 fn all(
+    rt: &impl Print,
     text: &[u8],
     from: usize,
     kind: u8,
     bytes: &[u8],
     one_case: &[u8],
     all_cases: &[u8],
-) -> usize {
+) -> io::Result<usize> {
     let count = vectors::next_number(text, from);
     let mut at = count.at;
     let mut differing: u64 = 0;
@@ -54,12 +77,12 @@ fn all(
         let case = one(text, at, kind, bytes);
         at = case.at;
         if !case.agrees {
-            tally::differs(one_case, i);
+            tally::differs(rt, one_case, i)?;
             differing = std::num::wrapping_add_u64(differing, 1);
         }
     }
-    tally::total(count.value, all_cases, differing);
-    at
+    tally::total(rt, count.value, all_cases, differing)?;
+    Ok(at)
 }
 
 // One case.

@@ -1,5 +1,5 @@
 // What is printed of the cases.
-const OUT: i32 = 1;
+use std::io;
 
 // Whether a case agrees, and the place after it.
 #[derive(Clone, Copy)]
@@ -9,16 +9,14 @@ pub struct Case {
 }
 
 // A case that differs, by what it is and its number.
-pub fn differs(what: &[u8], i: u64) {
-    io::write_all(OUT, what);
-    io::print_decimal(OUT, i);
-    io::write_all(OUT, b" differs\n");
+pub fn differs(rt: &impl Print, what: &[u8], i: u64) -> io::Result<()> {
+    rt.write_all(what)?;
+    println!(rt; "{i} differs")
 }
 
 // How many cases there are, and how many of them differ.
-pub fn total(count: u64, what: &[u8], differing: u64) {
-    io::print_decimal(OUT, count);
-    io::write_all(OUT, what);
-    io::print_decimal(OUT, differing);
-    io::write_all(OUT, b" differ\n");
+pub fn total(rt: &impl Print, count: u64, what: &[u8], differing: u64) -> io::Result<()> {
+    print!(rt; "{count}")?;
+    rt.write_all(what)?;
+    println!(rt; "{differing} differ")
 }

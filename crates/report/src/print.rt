@@ -1,52 +1,56 @@
 // Printing an answer and its grids, parted by tabs.
 use belutharin::Answer;
-
-const OUT: i32 = 1;
+use std::io;
 
 // An answer: its number, the grids stored, the steps, the deepest and the limit.
-pub fn answer_line(a: Answer) {
-    io::write_all(OUT, b"answer");
-    field(a.number as u64);
-    field(a.grids as u64);
-    field(a.steps);
-    field(a.deepest as u64);
-    field(a.limit as u64);
-    io::write_all(OUT, b"\n");
+pub fn answer_line(rt: &impl Print, a: Answer) -> io::Result<()> {
+    print!(rt; "answer")?;
+    field(rt, a.number as u64)?;
+    field(rt, a.grids as u64)?;
+    field(rt, a.steps)?;
+    field(rt, a.deepest as u64)?;
+    field(rt, a.limit as u64)?;
+    println!(rt)
 }
 
-fn field(value: u64) {
-    io::write_all(OUT, b"\t");
-    io::print_decimal(OUT, value);
+fn field(rt: &impl Print, value: u64) -> io::Result<()> {
+    print!(rt; "\t{value}")
 }
 
 // The n grids that are stored in a list.
-pub fn grid_lines(list: &[u8], w: usize, h: usize, n: usize) {
+pub fn grid_lines(rt: &impl Print, list: &[u8], w: usize, h: usize, n: usize) -> io::Result<()> {
     for i in 0..n {
-        stored_grid_line(list, w, h, n, i);
+        stored_grid_line(rt, list, w, h, n, i)?;
     }
+    Ok(())
 }
 
 // Stored grid i of n.
-fn stored_grid_line(list: &[u8], w: usize, h: usize, n: usize, i: usize) {
-    grid_line(i as u64, grids::part(list, w, h, n, i));
+fn stored_grid_line(
+    rt: &impl Print,
+    list: &[u8],
+    w: usize,
+    h: usize,
+    n: usize,
+    i: usize,
+) -> io::Result<()> {
+    grid_line(rt, i as u64, grids::part(list, w, h, n, i))
 }
 
 // A grid by its number, its colours row by row.
-pub fn grid_line(i: u64, cells: &[u8]) {
-    io::write_all(OUT, b"grid");
-    field(i);
-    io::write_all(OUT, b"\t");
-    colours(cells);
-    io::write_all(OUT, b"\n");
+pub fn grid_line(rt: &impl Print, i: u64, cells: &[u8]) -> io::Result<()> {
+    print!(rt; "grid")?;
+    field(rt, i)?;
+    print!(rt; "\t")?;
+    colours(rt, cells)?;
+    println!(rt)
 }
 
-fn colours(cells: &[u8]) {
-    let mut i: usize = 0;
-    while i < cells.len() {
-        let one = [digit(cells[i]); 1];
-        io::write_all(OUT, &one);
-        i += 1;
+fn colours(rt: &impl Print, cells: &[u8]) -> io::Result<()> {
+    for &cell in cells {
+        rt.write_all(&[digit(cell)])?;
     }
+    Ok(())
 }
 
 // The digit of a cell's one colour, and `?` for a cell that is not solved.

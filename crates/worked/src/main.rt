@@ -4,23 +4,20 @@
 ghost use Rattle.std.specs.Prelude.{◌≤◌};
 
 use expected::{Expected, Question};
+use std::io;
 
-const OUT: i32 = 1;
-
-fn main() {
-    say(7, refused_rate());
-    say(13, fewer_grids());
-    say(14, less_depth_or_budget());
-    say(15, bounds());
+fn main(rt: HostRuntime) -> io::Result<()> {
+    say(&rt, 7, refused_rate())?;
+    say(&rt, 13, fewer_grids())?;
+    say(&rt, 14, less_depth_or_budget())?;
+    say(&rt, 15, bounds())
 }
 
-fn say(grid: u64, agrees: bool) {
-    io::write_all(OUT, b"grid ");
-    io::print_decimal(OUT, grid);
+fn say(rt: &impl Print, grid: u64, agrees: bool) -> io::Result<()> {
     if agrees {
-        io::write_all(OUT, b" agrees\n");
+        println!(rt; "grid {grid} agrees")
     } else {
-        io::write_all(OUT, b" differs\n");
+        println!(rt; "grid {grid} differs")
     }
 }
 
