@@ -2,17 +2,15 @@
 
 .PHONY: rules report test tidy oracle mends alike library bindings differences longer benchmark
 
-# `rt check` runs the program and holds what it writes to its file `stdout`, which is printed then.
+# `rt run` proves the program and what it stands on, and runs it; what it says of the proofs goes to standard error.
 report:
-	@rt check report
-	@cat crates/report/stdout
+	@cd crates/report && rt run
 
 rules:
-	rt check rules
+	cd crates/rules && rt check
 
-# What a script can see of the house rules: the layout of every file, and no path of a machine.
+# What a script can see of the house rules, but for the layout of the files, which `rt ci` asks for (`rt fmt` in a crate's folder).
 tidy:
-	@rt fmt --check
 	@tools/tidy
 
 # The Rust original over the stand-in: its own tests, the vectors made again byte for byte, the mended run against the unmended one.
@@ -50,6 +48,6 @@ longer: library
 benchmark: library
 	@tools/benchmark
 
-# The last line is the verdict of `rt ci`. The library is tested after it, since `rt ci` begins from nothing and its proofs serve again.
-test: tidy oracle mends
+# First `rt ci`, on the checkout as it is, then tidy, oracle, mends and bindings. The last line is the verdict of `rt ci`.
+test:
 	@tools/gate

@@ -16,7 +16,7 @@ pub fn description() -> Vec<String> {
         format!("System: {}", said("uname", &["-sr"])),
         format!("Rust: {}", said("rustc", &["--version"])),
         format!("Rattle: {}", said("rt", &["version"])),
-        format!("Library: {}", library()),
+        "Library: as `rt lib` writes it".to_string(),
     ]
 }
 
@@ -30,14 +30,6 @@ fn processor() -> String {
             part("CPU part")
         )
     })
-}
-
-fn library() -> &'static str {
-    if consts::ARCH == "x86_64" {
-        "as `rt staticlib` writes it"
-    } else {
-        "the module that `rt staticlib` compiles for x86-64, compiled for this processor by the same compiler (`tools/library`)"
-    }
 }
 
 /// The first field of this name in a file of lines like `name : value`.

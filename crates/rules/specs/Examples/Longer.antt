@@ -1,6 +1,6 @@
 -- Longer runs at work: a list that grows, an empty list that becomes a dead end, and a list at depth 1 that does not begin with the list at depth 0.
-use Rattle.std.specs.Prelude.{◌≡◌, refl, List, [], ◌∷◌, ◌++◌, ℕ, get_or, replicate}
-use Rattle.std.proofs.Common.{sym, ap, ◌∙◌, arith}
+use Rattle.std.specs.Prelude.{◌≡◌, refl, List, [], ◌∷◌, ℕ, get_or, replicate}
+use Rattle.std.proofs.Common.{ap, arith}
 use Rattle.rules.specs.Boards.{Board}
 use Rattle.rules.specs.Answers.{Asked, solve}
 use Rattle.rules.specs.Promises.{parts}
@@ -102,7 +102,5 @@ deep = refl
 
 -- so a deeper run does not only add
 deeper_alters : Adds (given (wide 0)) (given (wide 1)) → ⊥
-deeper_alters h =
-    let r = h.grids_begin in
-    let n : ◌≡◌ {A = ℕ} 1 2 = ap (λ (l : List Board). get_or (get_or l 1 []) 0 0) (sym deep ∙ r.1 ∙ ap (λ l. l ++ r.0) shallow) in
-    omega arith
+unfolding computed parts
+deeper_alters h = let n : ◌≡◌ {A = ℕ} 1 2 = ap (λ (l : List Board). get_or (get_or l 1 []) 0 0) h.grids_begin.1 in omega arith
