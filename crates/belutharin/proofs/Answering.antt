@@ -37,7 +37,7 @@ use Rattle.guesses.specs.declared.waiting.Guesses.{Guesses}
 use Rattle.guesses.specs.Waiting.{Waiting, IfRoom}
 use Rattle.backtracking.specs.declared.nodes.Ended.{Ended}
 use Rattle.backtracking.specs.Setting.{Ready, Setting, LeftTo}
-use Rattle.backtracking.specs.Comes as Comes
+use Rattle.backtracking.specs.Comes
 use Rattle.backtracking.specs.Comes.{depth_of, SearchStands}
 use Rattle.backtracking.proofs.Boarding.{of_size, sized_on, size_cells}
 use Rattle.belutharin.specs.Answers.{asked, answer, plain, counted, Checks, Given, Searches}

@@ -43,7 +43,7 @@ module _ (z : Puzzle) (l : Limits) (k : ℕ) (few : k ≤ 7) (given : Board) (p 
   unfolding PromisedBy
   solved_promise b f only = record {
     answered = inl refl;
-    dead_end_lem = λ e. absurd (omega arith);
+    dead_end = λ e. absurd (omega arith);
     solved = λ _. (f, only);
     deductions = λ e. absurd (omega arith);
     stored_fit = λ g m. absurd (Memᴰ.not-nil m);
@@ -59,7 +59,7 @@ module _ (z : Puzzle) (l : Limits) (k : ℕ) (few : k ≤ 7) (given : Board) (p 
   unfolding PromisedBy
   dead_promise s f stored once few' short = record {
     answered = inr (inr refl);
-    dead_end_lem = λ _. f;
+    dead_end = λ _. f;
     solved = λ e. absurd (omega arith);
     deductions = λ e. absurd (omega arith);
     stored_fit = stored;
@@ -93,7 +93,7 @@ module _ (z : Puzzle) (l : Limits) (k : ℕ) (few : k ≤ 7) (given : Board) (p 
       dead_promise s (λ g f. i.settled.means g (d.keeps g f)) (stored_given b d i) (i.settled.grown.once tt) (let h = n.few in omega arith) (within s n.short)
   answered_promise b d (left not_dead a s) i n = record {
     answered = inr (inl refl);
-    dead_end_lem = λ e. absurd (omega arith);
+    dead_end = λ e. absurd (omega arith);
     solved = λ e. absurd (omega arith);
     deductions = λ _. (⊑_trans i.sub d.sub, λ g f. i.keeps g (d.keeps g f));
     stored_fit = stored_given b d i;
@@ -118,7 +118,7 @@ module _ (z : Puzzle) (l : Limits) (k : ℕ) (few : k ≤ 7) (given : Board) (p 
 
   -- a dead end has stored nothing: what is stored fits, and nothing does
   pub dead_stores_none : (s : Run) → Promise z l k given (of_outcome given (dead_end s)) → s.stored ≡ []
-  dead_stores_none s h = go s.stored (λ g m. h.dead_end_lem refl g (h.stored_fit g m))
+  dead_stores_none s h = go s.stored (λ g m. h.dead_end refl g (h.stored_fit g m))
     where
       go : (l : List Board) → ((g : Board) → In g l → ⊥) → l ≡ []
       go [] f = refl

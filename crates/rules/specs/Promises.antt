@@ -59,7 +59,7 @@ pub record Promise (z : Puzzle) (l : Limits) (k : ℕ) (given : Board) (r : Resu
   -- It is answered as solved, as listed or as a dead end.
   pub answered : (r.number ≡ 1) ⊎ ((r.number ≡ 2) ⊎ (r.number ≡ 3))
   -- A dead end is answered only if no grid fits.
-  pub dead_end_lem : r.number ≡ 3 → (grid : Board) → Fits z given grid → ⊥
+  pub dead_end : r.number ≡ 3 → (grid : Board) → Fits z given grid → ⊥
   -- A solved board is a fitting grid, and the only one.
   pub solved : r.number ≡ 1 → Fits z given r.board × ((grid : Board) → Fits z given grid → grid ≡ r.board)
   -- The board left behind with "listed" is a narrowing of the given board that every fitting grid still fits.

@@ -70,9 +70,9 @@ empty_list : given misread ≡ listed (3 ∷ 2 ∷ 3 ∷ 2 ∷ 2 ∷ 1 ∷ 3 ∷
 unfolding computed parts
 empty_list = refl
 
-dead_end_lem : given (rerun misread 2 1 (replicate 18 9)) ≡ record { result = record { number = 3; board = misread.cells; grids = []; steps = 3; limit = 0 }; deepest = 1 }
+dead_end : given (rerun misread 2 1 (replicate 18 9)) ≡ record { result = record { number = 3; board = misread.cells; grids = []; steps = 3; limit = 0 }; deepest = 1 }
 unfolding computed parts
-dead_end_lem = refl
+dead_end = refl
 
 -- ## 5 by 2, rows 1 1 and 1, columns 1, none, 1, none, 1: at depth 0 another grid comes second than at depth 1
 
