@@ -17,7 +17,7 @@ tidy:
 oracle:
 	@tools/oracle
 
-# With a mend taken out of rules and code alike, laws of the promise fail in the rules themselves, and its opposite is proved; with each edit of the rules that has a law beside it, a theorem of theirs is proved to be false.
+# With a mend taken out of rules and code alike, laws of the promise fail in the rules themselves, and its opposite is proved; with each edit of the rules that has a law in mends/edits, a theorem of theirs is proved to be false.
 mends:
 	@tools/mends
 

@@ -10,7 +10,7 @@ use Rattle.rules.proofs.Given.{Written}
 use Rattle.rules.proofs.Copies.{get_or-copied, get_or-not_copied}
 use Rattle.lines.specs.declared.machine.Machine.{Machine}
 use Rattle.boards.specs.Table.{machine_at, Stored}
-use Rattle.boards.proofs.Parts.{length_part, get_d_part, part_is, Copied}
+use Rattle.boards.proofs.Parts.{length_part, get_or-part, part_is, Copied}
 
 -- a machine whose masks are read out of the table
 pub read_end : (masks : List ℕ) (i : ℕ) (by : List ℕ) (j : ℕ) → Written (λ k. get_or masks (i * 10 + k) 0) 0 8 j by → 8 ≤ j → i * 10 + 10 ≤ length masks →
@@ -26,7 +26,7 @@ unfolding machine_at
 machine_same a b i e f =
     let m : take 8 (drop (i * 10) a) ≡ take 8 (drop (i * 10) b) = part_is 8 (i * 10) b (take 8 (drop (i * 10) a))
     (simp (length-take, length-drop) (ap (λ n. min 8 (n - i * 10)) e))
-    (λ k l. get_d_part 8 (i * 10) k a l ∙ f k (omega arith)) in
+    (λ k l. get_or-part 8 (i * 10) k a l ∙ f k (omega arith)) in
     let g : get_or a (i * 10 + 8) 0 ≡ get_or b (i * 10 + 8) 0 = f 8 (omega arith) in
     let l : get_or a (i * 10 + 9) 0 ≡ get_or b (i * 10 + 9) 0 = f 9 (omega arith) in
     rw (m, g, l)

@@ -10,13 +10,13 @@ use lib.Seq.{paste, paste-zero, paste-suc, get_or-take, get_or-drop, length-take
 pub length_part : (n at : ℕ) (list : List ℕ) → at + n ≤ length list → length (take n (drop at list)) ≡ n
 length_part n at list h = length-take-le n (drop at list) (rw length-drop (omega arith))
 
-pub get_d_part : (n at i : ℕ) (list : List ℕ) → i < n → get_or (take n (drop at list)) i 0 ≡ get_or list (at + i) 0
-get_d_part n at i list h = get_or-take n (drop at list) i 0 h ∙ get_or-drop at list i 0
+pub get_or-part : (n at i : ℕ) (list : List ℕ) → i < n → get_or (take n (drop at list)) i 0 ≡ get_or list (at + i) 0
+get_or-part n at i list h = get_or-take n (drop at list) i 0 h ∙ get_or-drop at list i 0
 
 -- a part given number by number
 pub part_is : (n at : ℕ) (list part : List ℕ) → length part ≡ length (take n (drop at list)) → ((i : ℕ) → i < n → get_or part i 0 ≡ get_or list (at + i) 0) → part ≡ take n (drop at list)
 part_is n at list part e f = ext_get_or 0 part (take n (drop at list)) e
-    (λ i h. let k : length part ≡ min n (length (drop at list)) = simp length-take at e in let l : i < n = omega arith in f i l ∙ sym (get_d_part n at i list l))
+    (λ i h. let k : length part ≡ min n (length (drop at list)) = simp length-take at e in let l : i < n = omega arith in f i l ∙ sym (get_or-part n at i list l))
 
 -- of n numbers that are copied to a place the first i are there, and nothing else has changed
 pub record Copied (before : List ℕ) (at : ℕ) (part : List ℕ) (n i : ℕ) (list : List ℕ) : Type 0 where

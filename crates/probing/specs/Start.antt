@@ -12,4 +12,4 @@ pub record SolvedOn (b : Board) (n : ℕ) (solved : List ℕ) : Type 0 where
 
 -- a cell's priority; so many cells of its row and of its column are solved
 abbrev pub PriorityIs : Board → Cell → ℕ → ℕ → Float → Type 0
-PriorityIs b c rowSolved columnSolved p = (z : Puzzle) → OfSize z b → p ≡ priority_of (length (around z (board_of b) c)) rowSolved b.w columnSolved b.h
+PriorityIs b c row_solved column_solved p = (z : Puzzle) → OfSize z b → p ≡ priority_of (length (around z (board_of b) c)) row_solved b.w column_solved b.h

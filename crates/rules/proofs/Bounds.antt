@@ -85,7 +85,7 @@ module _ (z : Puzzle) (l : Limits) (k : ℕ) (few : k ≤ 7) where
 
   -- ## A node, over guesses that are bounded by n steps
 
-  module _ (n : ℕ) (try : Board → Cell → Colour → Run → Tried) (d : ℕ) (guessBound : GuessBound z l k n try) (room : budget ≤ n) where
+  module _ (n : ℕ) (try : Board → Cell → Colour → Run → Tried) (d : ℕ) (the_guess_bound : GuessBound z l k n try) (room : budget ≤ n) where
     -- a node between two guesses, or when they have run out
     record Between (b : Board) (s : Run) : Type 0 where
       playable : Playable z k b
@@ -129,7 +129,7 @@ module _ (z : Puzzle) (l : Limits) (k : ℕ) (few : k ≤ 7) where
     step_bounded (node b (guess c x ∷ gs) p made s) i = on_number TurnBounded (met z l s d)
         (λ e. let r = met_none z l s d e in
         on_test TurnBounded (has (at b c) x)
-        (λ h. on_test TurnBounded (single (at b c)) (λ _. alone r p) (λ _. after (try b c x s) (guessBound b c x s i.playable h r.0 r.1)))
+        (λ h. on_test TurnBounded (single (at b c)) (λ _. alone r p) (λ _. after (try b c x s) (the_guess_bound b c x s i.playable h r.0 r.1)))
         (λ _. i))
         (λ m _. record { few = i.stored_few; short = i.short })
       where
@@ -173,7 +173,7 @@ module _ (z : Puzzle) (l : Limits) (k : ℕ) (few : k ≤ 7) where
 
   -- ## A guess, over a search that is bounded by n steps
 
-  module _ (n : ℕ) (deep : Board → List Guess → Run → Left) (d : ℕ) (searchBound : SearchBound z l k n deep) (room : budget + longest z k ≤ n) where
+  module _ (n : ℕ) (deep : Board → List Guess → Run → Left) (d : ℕ) (the_search_bound : SearchBound z l k n deep) (room : budget + longest z k ≤ n) where
     record Inside (b : Board) (s : Run) : Type 0 where
       playable : Playable z k b
       stored_few : length s.stored ≤ most_grids
@@ -191,7 +191,7 @@ module _ (z : Puzzle) (l : Limits) (k : ℕ) (few : k ≤ 7) where
     guess_deeper-bounded b ns s i = on_number TriedWithin (met z l s d)
         (λ _. on_test TriedWithin (solved b)
         (λ _. record { few = i.stored_few; short = (let c = i.short in omega arith) })
-        (λ _. ended_bounded (deep b (choose b ns) s) (searchBound b (choose b ns) s i.playable i.stored_few (let c = i.short in omega arith))))
+        (λ _. ended_bounded (deep b (choose b ns) s) (the_search_bound b (choose b ns) s i.playable i.stored_few (let c = i.short in omega arith))))
         (λ m _. record { few = i.stored_few; short = (let c = i.short in omega arith) })
 
     guess_probed-bounded : (b : Board) (s : Run) → length s.stored < most_grids → steps s ≤ budget → (r : Probed) → Probes s r → TriedWithin (guess_probed z l deep d r)

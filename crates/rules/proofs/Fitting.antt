@@ -18,7 +18,7 @@ use Rattle.rules.specs.Boards.{Board, Cell, at, put, remove, remove_all, solved,
 use Rattle.rules.specs.Propagation.{write, check}
 use Rattle.rules.specs.Promises.{AllMeet, Fits, ◌⊑◌}
 use Rattle.rules.proofs.Tests.{by_test, by_equal, clash, and_true, true_and}
-use Rattle.rules.proofs.Lists.{In, every_out, every_in, get_or-in, get_d_map, map_same, from_low, below}
+use Rattle.rules.proofs.Lists.{In, every_out, every_in, get_or-in, get_or-map, map_same, from_low, below}
 use Rattle.rules.proofs.Sets.{has_in, in_has, only_one, only_self, byte_colour, single_some, single_only, member_pos, has_without, some_member, not_empty}
 use Rattle.rules.proofs.Boards.{Sized, line_low}
 use Rattle.rules.proofs.Lines.{from_length, from_at, at_from, meets_solved, solved_meets}
@@ -62,7 +62,7 @@ write_filled b (c ∷ cs) (s ∷ sets) f h = write_filled (set b c s) cs sets (s
 
 -- some cells of it
 single_cells : (l : List Colour) (cs : List Cell) → ((c : Cell) → In c cs → c < length l) → map (at (map only l)) cs ≡ map only (map (λ c. get_or l c 0) cs)
-single_cells l cs h = map_same (at (map only l)) (λ c. only (get_or l c 0)) cs (λ c m. get_d_map only l c 0 0 (h c m)) ∙ sym (map-map only (λ c. get_or l c 0) cs)
+single_cells l cs h = map_same (at (map only l)) (λ c. only (get_or l c 0)) cs (λ c m. get_or-map only l c 0 0 (h c m)) ∙ sym (map-map only (λ c. get_or l c 0) cs)
 
 -- the colours of a board whose cells are all solved
 single_colours : (b : Board) → ((c : Cell) → c < length b → at b c < 256) → solved b ≡ true → (l : List Colour) × (b ≡ map only l) × From b l
@@ -89,7 +89,7 @@ module _ (z : Puzzle) where
 
   pub fits_cell : {b g : Board} (f : Fits z b g) (c : Cell) → c < length b → (at g c ≡ only (colour_at f c)) × (has (at b c) (colour_at f c) ≡ true)
   fits_cell {b} f c h = (
-    ap (λ l. at l c) f.alone ∙ get_d_map only f.colours c 0 0 (let e = from_length f.taken in omega arith),
+    ap (λ l. at l c) f.alone ∙ get_or-map only f.colours c 0 0 (let e = from_length f.taken in omega arith),
     has_in (at b c) (colour_at f c) (from_at c f.taken h),
   )
 

@@ -42,16 +42,16 @@ rate_plain max min few in_order = (rate_at_most max min few in_order).number
 solved_at_most : (solved cells : ℕ) → solved ≤ cells → 0 < cells → cells ≤ 16 → AtMost 1 (div binary64 (float solved) (float cells))
 solved_at_most solved cells h some few = ratio_at_most solved cells 1 some (omega arith) (omega arith) (lit≤ tt) (omega arith)
 
-pub priority_at_most : (unsolved rowSolved rowLength columnSolved columnLength : ℕ) → rowSolved ≤ rowLength → 0 < rowLength → rowLength ≤ 16 →
-    columnSolved ≤ columnLength → 0 < columnLength → columnLength ≤ 16 → AtMost 6 (priority_of unsolved rowSolved rowLength columnSolved columnLength)
+pub priority_at_most : (unsolved row_solved row_length column_solved column_length : ℕ) → row_solved ≤ row_length → 0 < row_length → row_length ≤ 16 →
+    column_solved ≤ column_length → 0 < column_length → column_length ≤ 16 → AtMost 6 (priority_of unsolved row_solved row_length column_solved column_length)
 unfolding priority_of
-priority_at_most unsolved rowSolved rowLength columnSolved columnLength h₁ h₂ h₃ h₄ h₅ h₆ =
+priority_at_most unsolved row_solved row_length column_solved column_length h₁ h₂ h₃ h₄ h₅ h₆ =
     sum_at_most 5 1 (lit≤ tt)
-    (sum_at_most 4 1 (lit≤ tt) (float_at_most (4 - unsolved) 4 (lit≤ tt) (omega arith)) (solved_at_most rowSolved rowLength h₁ h₂ h₃))
-    (solved_at_most columnSolved columnLength h₄ h₅ h₆)
+    (sum_at_most 4 1 (lit≤ tt) (float_at_most (4 - unsolved) 4 (lit≤ tt) (omega arith)) (solved_at_most row_solved row_length h₁ h₂ h₃))
+    (solved_at_most column_solved column_length h₄ h₅ h₆)
 
-pub priority_plain : (unsolved rowSolved rowLength columnSolved columnLength : ℕ) → rowSolved ≤ rowLength → 0 < rowLength → rowLength ≤ 16 →
-    columnSolved ≤ columnLength → 0 < columnLength → columnLength ≤ 16 → Plain (priority_of unsolved rowSolved rowLength columnSolved columnLength)
+pub priority_plain : (unsolved row_solved row_length column_solved column_length : ℕ) → row_solved ≤ row_length → 0 < row_length → row_length ≤ 16 →
+    column_solved ≤ column_length → 0 < column_length → column_length ≤ 16 → Plain (priority_of unsolved row_solved row_length column_solved column_length)
 priority_plain u r w c h h₁ h₂ h₃ h₄ h₅ h₆ = (priority_at_most u r w c h h₁ h₂ h₃ h₄ h₅ h₆).number
 
 -- the two priorities of neighbours

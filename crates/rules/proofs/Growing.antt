@@ -79,7 +79,7 @@ SearchGrows deep = (b : Board) (gs : List Guess) (s : Run) → LeftLater b s (de
 module _ (z : Puzzle) (l : Limits) where
   -- ## A node, over guesses that grow, against the board and the run that it began with
 
-  module _ (try : Board → Cell → Colour → Run → Tried) (d : ℕ) (guessGrows : GuessGrows try) (b₀ : Board) (s₀ : Run) where
+  module _ (try : Board → Cell → Colour → Run → Tried) (d : ℕ) (the_guess_grows : GuessGrows try) (b₀ : Board) (s₀ : Run) where
     abbrev NodeLater : Node → Type 0
     NodeLater (node b gs p made s) = (b ⊑ b₀) × Later s₀ s
 
@@ -121,7 +121,7 @@ module _ (z : Puzzle) (l : Limits) where
     step_later (node b [] p made s) i = i
     step_later (node b (guess c x ∷ gs) p made s) i = on_number TurnLater (met z l s d)
         (λ _. on_test TurnLater (has (at b c) x)
-        (λ _. on_test TurnLater (single (at b c)) (λ _. alone p) (λ _. after_later b c x gs p made i.0 (try b c x s) (tried_later (try b c x s) (guessGrows b c x s))))
+        (λ _. on_test TurnLater (single (at b c)) (λ _. alone p) (λ _. after_later b c x gs p made i.0 (try b c x s) (tried_later (try b c x s) (the_guess_grows b c x s))))
         (λ _. i))
         (λ m _. (i.0, later_note (suc m) i.1))
       where
@@ -166,13 +166,13 @@ module _ (z : Puzzle) (l : Limits) where
 
   -- ## A guess, over a search that grows
 
-  module _ (deep : Board → List Guess → Run → Left) (d : ℕ) (searchGrows : SearchGrows deep) (s₀ : Run) where
+  module _ (deep : Board → List Guess → Run → Left) (d : ℕ) (the_search_grows : SearchGrows deep) (s₀ : Run) where
     ended_later : (b : Board) {s : Run} → Later s₀ s → (e : Left) → LeftLater b s e → TriedLater s₀ (ended e)
     ended_later b h (left e a t) i = later_trans h i.1
 
     pub guess_deeper-later : (b : Board) (ns : Notes) (s : Run) → Later s₀ s → TriedLater s₀ (guess_deeper z l deep d b ns s)
     guess_deeper-later b ns s h = on_number (TriedLater s₀) (met z l s d)
-        (λ _. on_test (TriedLater s₀) (solved b) (λ _. h) (λ _. ended_later b h (deep b (choose b ns) s) (searchGrows b (choose b ns) s)))
+        (λ _. on_test (TriedLater s₀) (solved b) (λ _. h) (λ _. ended_later b h (deep b (choose b ns) s) (the_search_grows b (choose b ns) s)))
         (λ m _. later_note (suc m) h)
 
     guess_probed-later : (b : Board) (s : Run) → Later s₀ s → (r : Probed) → ProbedBelow z b s r → TriedLater s₀ (guess_probed z l deep d r)

@@ -259,10 +259,10 @@ map_in f [] m = absurd (Memᴰ.not-nil m)
 map_in f (x ∷ l) m = elim (Memᴰ.cases_cons m) [ inl q ↦ (x, Memᴰ.head refl, q) | inr n ↦ (let r = map_in f l n in (r.0, Memᴰ.tail r.1, r.2)) ]
 
 -- element i of what a function gives of a list
-pub get_d_map : {A C : Type 0} (f : A → C) (l : List A) (i : ℕ) (d : C) (e : A) → i < length l → get_or (map f l) i d ≡ f (get_or l i e)
-get_d_map f [] i d e h = absurd (omega arith)
-get_d_map f (x ∷ l) zero d e h = refl
-get_d_map f (x ∷ l) (suc i) d e h = get_d_map f l i d e (omega arith)
+pub get_or-map : {A C : Type 0} (f : A → C) (l : List A) (i : ℕ) (d : C) (e : A) → i < length l → get_or (map f l) i d ≡ f (get_or l i e)
+get_or-map f [] i d e h = absurd (omega arith)
+get_or-map f (x ∷ l) zero d e h = refl
+get_or-map f (x ∷ l) (suc i) d e h = get_or-map f l i d e (omega arith)
 
 -- functions that agree on a list give the same of it, and the other way round
 pub map_same : {A C : Type 0} (f g : A → C) (l : List A) → ((a : A) → In a l → f a ≡ g a) → map f l ≡ map g l

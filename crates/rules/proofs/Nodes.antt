@@ -31,7 +31,7 @@ use Rattle.rules.proofs.Runs.{store_in_lem, noted_limit, Grown, grown_in, grown_
 
 module _ (z : Puzzle) (l : Limits) (k : ℕ) (few : k ≤ 7) where
   -- over guesses that keep their promise
-  module _ (try : Board → Cell → Colour → Run → Tried) (d : ℕ) (guessPromise : GuessPromise z k try) (b₀ : Board) (s₀ : Run) where
+  module _ (try : Board → Cell → Colour → Run → Tried) (d : ℕ) (the_guess_promise : GuessPromise z k try) (b₀ : Board) (s₀ : Run) where
     -- with no limit met, every fitting grid with the guess's colour is stored, and there is one
     abbrev Known : Board → Guess → Run → Type 0
     Known b (guess c x) s = s.limit ≡ 0 → ((g : Board) → Fits z b g → has (at g c) x ≡ true → In g s.stored) × ((g : Board) × Fits z b₀ g)
@@ -106,7 +106,7 @@ module _ (z : Puzzle) (l : Limits) (k : ℕ) (few : k ≤ 7) where
     step_sound (node b [] p made s) i = i
     step_sound (node b (guess c x ∷ gs) p made s) i = on_number TurnSound (met z l s d)
         (λ _. on_test TurnSound (has (at b c) x)
-        (λ h. on_test TurnSound (single (at b c)) (λ _. alone p) (λ _. after h (try b c x s) (guessPromise b c x s here h)))
+        (λ h. on_test TurnSound (single (at b c)) (λ _. alone p) (λ _. after h (try b c x s) (the_guess_promise b c x s here h)))
         (λ _. i))
         (λ m _. limited m i.0)
       where

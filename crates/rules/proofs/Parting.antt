@@ -145,7 +145,7 @@ module _ (z : Puzzle) (l m : Limits) (raised : Raised l m) where
 
   -- ## A node, over guesses that go side by side
 
-  module _ (try try' : Board → Cell → Colour → Run → Tried) (d : ℕ) (guessBeside : GuessBeside try try') (guessGrows : GuessGrows try') where
+  module _ (try try' : Board → Cell → Colour → Run → Tried) (d : ℕ) (the_guess_beside : GuessBeside try try') (the_guess_grows : GuessGrows try') where
     -- the shorter run, halted: it leaves the pass, or its guesses have run out, and it leaves the node
     pass_halted : (P : Left → Type 0) (b : Board) (gs : List Guess) (p : Bool) (made : List Guess) (s : Run) → Halted s → P (left not_dead b s) → ((n : ℕ) → n < 2 → P (left not_dead b (note (suc n) s))) →
         P (standing (pass z l try d (node b gs p made s)))
@@ -157,25 +157,25 @@ module _ (z : Puzzle) (l m : Limits) (raised : Raised l m) where
     refill_halted P b p made s h noted = subst P (sym (refill_turn z l try d (spent b p made s))) (let r = met_halted s d h in rw r.1 (noted r.0 r.2))
 
     -- the longer run, on to the end of its pass
-    standing_later : (b : Board) (s : Run) (r : Pass) → PassLater z m try' d guessGrows b s r → LeftLater b s (standing r)
+    standing_later : (b : Board) (s : Run) (r : Pass) → PassLater z m try' d the_guess_grows b s r → LeftLater b s (standing r)
     standing_later b s (over e) i = i
     standing_later b s (ran_out (spent a p made t)) i = i
 
     StepBeside : Turn Node Pass → Turn Node Pass → Type 0
     StepBeside = Abreast pass_measure pass_unended (pass_step z l try d) (pass_step z m try' d) PassBeside
 
-    on_later : (b : Board) (s : Run) (o : Turn Node Pass) → TurnLater z m try' d guessGrows b s o → LeftLater b s (standing (onward pass_measure pass_unended (pass_step z m try' d) o))
+    on_later : (b : Board) (s : Run) (o : Turn Node Pass) → TurnLater z m try' d the_guess_grows b s o → LeftLater b s (standing (onward pass_measure pass_unended (pass_step z m try' d) o))
     unfolding pass TurnLater
-    on_later b s (more t) i = standing_later b s (pass z m try' d t) (pass_later z m try' d guessGrows b s t i)
+    on_later b s (more t) i = standing_later b s (pass z m try' d t) (pass_later z m try' d the_guess_grows b s t i)
     on_later b s (stop r) i = standing_later b s r i
 
     step_beside : (t : Node) → StepBeside (pass_step z l try d t) (pass_step z m try' d t)
     unfolding StepBeside pass
     step_beside (node b [] p made s) = inl refl
     step_beside (node b (guess c x ∷ gs) p made s) = on_met StepBeside s d (λ n. inl refl)
-        (on_tests StepBeside (has (at b c) x) (on_tests StepBeside (single (at b c)) (alone p) (after (try b c x s) (try' b c x s) (guessBeside b c x s))) (inl refl))
+        (on_tests StepBeside (has (at b c) x) (on_tests StepBeside (single (at b c)) (alone p) (after (try b c x s) (try' b c x s) (the_guess_beside b c x s))) (inl refl))
         (λ h n k. inr (inr (parted_here b s k h (standing (onward pass_measure pass_unended (pass_step z m try' d) (pass_step z m try' d (node b (guess c x ∷ gs) p made s))))
-        (on_later b s (pass_step z m try' d (node b (guess c x ∷ gs) p made s)) (step_later z m try' d guessGrows b s (node b (guess c x ∷ gs) p made s) (⊑_refl b, later_refl s))))))
+        (on_later b s (pass_step z m try' d (node b (guess c x ∷ gs) p made s)) (step_later z m try' d the_guess_grows b s (node b (guess c x ∷ gs) p made s) (⊑_refl b, later_refl s))))))
       where
         alone : (q : Bool) → StepBeside (lone z l try d b gs q made s) (lone z m try' d b gs q made s)
         alone true = inl refl
@@ -190,7 +190,7 @@ module _ (z : Puzzle) (l m : Limits) (raised : Raised l m) where
         parted (tried not_dead t) (tried e u) h =
             let o = after_guess z m try' d b c x gs p made (tried e u) in
             let q = standing (onward pass_measure pass_unended (pass_step z m try' d) o) in
-            let i = parted_later b h q (on_later b u o (after_later z m try' d guessGrows b u b c x gs p made (⊑_refl b) (tried e u) (later_refl u))) in
+            let i = parted_later b h q (on_later b u o (after_later z m try' d the_guess_grows b u b c x gs p made (⊑_refl b) (tried e u) (later_refl u))) in
             inr (inr (pass_halted (λ r. LeftParted r q) b gs p (guess c x ∷ made) t h.halted i (λ n k. parted_note b t k q i)))
 
         after : (t u : Tried) → TriedBeside t u → StepBeside (after_guess z l try d b c x gs p made t) (after_guess z m try' d b c x gs p made u)
@@ -204,9 +204,9 @@ module _ (z : Puzzle) (l m : Limits) (raised : Raised l m) where
     SpentBeside : Turn Spent Left → Turn Spent Left → Type 0
     SpentBeside = Abreast spent_measure spent_unended (spent_step z l try d) (spent_step z m try' d) LeftBeside
 
-    refill_on : (b : Board) (s : Run) (o : Turn Spent Left) → SpentTurnLater z m try' d guessGrows b s o → LeftLater b s (onward spent_measure spent_unended (spent_step z m try' d) o)
+    refill_on : (b : Board) (s : Run) (o : Turn Spent Left) → SpentTurnLater z m try' d the_guess_grows b s o → LeftLater b s (onward spent_measure spent_unended (spent_step z m try' d) o)
     unfolding refill SpentTurnLater
-    refill_on b s (more t) i = refill_later z m try' d guessGrows b s t i
+    refill_on b s (more t) i = refill_later z m try' d the_guess_grows b s t i
     refill_on b s (stop r) i = i
 
     -- what follows a pass, in both runs
@@ -216,7 +216,7 @@ module _ (z : Puzzle) (l m : Limits) (raised : Raised l m) where
         longer : (e : Left) (q : Pass) → LeftParted e (standing q) → LeftParted e (after_pass z m try' d q)
         longer e (over f) h = h
         longer (left dead b s) (ran_out t) h = absurd h
-        longer (left not_dead b s) (ran_out (spent a p made t)) h = narrower (refill z m try' d (spent a p made t)) (refill_later z m try' d guessGrows a t (spent a p made t) (⊑_refl a, later_refl t))
+        longer (left not_dead b s) (ran_out (spent a p made t)) h = narrower (refill z m try' d (spent a p made t)) (refill_later z m try' d the_guess_grows a t (spent a p made t) (⊑_refl a, later_refl t))
           where
             narrower : (e : Left) → LeftLater a t e → LeftParted (left not_dead b s) e
             narrower (left e f u) i = (⊑_trans i.0 h.0, parted_on h.1 i.1)
@@ -240,7 +240,7 @@ module _ (z : Puzzle) (l m : Limits) (raised : Raised l m) where
         (on_tests SpentBeside (solved b || any_closed b made) (inl refl)
         (again_beside (pass z l try d (node b (first_unsolved b) p made s)) (pass z m try' d (node b (first_unsolved b) p made s)) (pass_beside (node b (first_unsolved b) p made s))))
         (λ h n k. inr (inr (parted_here b s k h (onward spent_measure spent_unended (spent_step z m try' d) (spent_step z m try' d (spent b p made s)))
-        (refill_on b s (spent_step z m try' d (spent b p made s)) (spent_later z m try' d guessGrows b s (spent b p made s) (⊑_refl b, later_refl s))))))
+        (refill_on b s (spent_step z m try' d (spent b p made s)) (spent_later z m try' d the_guess_grows b s (spent b p made s) (⊑_refl b, later_refl s))))))
 
     refill_beside : (t : Spent) → LeftBeside (refill z l try d t) (refill z m try' d t)
     unfolding refill SpentBeside
@@ -260,7 +260,7 @@ module _ (z : Puzzle) (l m : Limits) (raised : Raised l m) where
 
   -- ## A guess, over searches that go side by side
 
-  module _ (deep deep' : Board → List Guess → Run → Left) (d : ℕ) (searchBeside : SearchBeside deep deep') (searchGrows : SearchGrows deep') where
+  module _ (deep deep' : Board → List Guess → Run → Left) (d : ℕ) (the_search_beside : SearchBeside deep deep') (the_search_grows : SearchGrows deep') where
     -- at a limit of the shorter run alone
     tried_here : (s : Run) {n : ℕ} → n < 2 → Halted s → (t : Tried) → TriedLater s t → TriedParted (tried not_dead (note (suc n) s)) t
     tried_here s k h (tried e t) i = parting k h i
@@ -272,8 +272,8 @@ module _ (z : Puzzle) (l m : Limits) (raised : Raised l m) where
 
     guess_deeper-beside : (b : Board) (ns : Notes) (s : Run) → TriedBeside (guess_deeper z l deep d b ns s) (guess_deeper z m deep' d b ns s)
     guess_deeper-beside b ns s = on_met TriedBeside s d (λ n. inl refl)
-        (on_tests TriedBeside (solved b) (inl refl) (ended_beside (deep b (choose b ns) s) (deep' b (choose b ns) s) (searchBeside b (choose b ns) s)))
-        (λ h n k. inr (tried_here s k h (guess_deeper z m deep' d b ns s) (guess_deeper-later z m deep' d searchGrows s b ns s (later_refl s))))
+        (on_tests TriedBeside (solved b) (inl refl) (ended_beside (deep b (choose b ns) s) (deep' b (choose b ns) s) (the_search_beside b (choose b ns) s)))
+        (λ h n k. inr (tried_here s k h (guess_deeper z m deep' d b ns s) (guess_deeper-later z m deep' d the_search_grows s b ns s (later_refl s))))
 
     guess_probed-beside : (r : Probed) → TriedBeside (guess_probed z l deep d r) (guess_probed z m deep' d r)
     guess_probed-beside (contradiction s) = inl refl
@@ -281,7 +281,7 @@ module _ (z : Puzzle) (l m : Limits) (raised : Raised l m) where
 
     guess_ask-beside : (b : Board) (q : CellQueue) (s : Run) → TriedBeside (guess_ask z l deep d b q s) (guess_ask z m deep' d b q s)
     guess_ask-beside b q s = on_met TriedBeside s d (λ n. inl refl) (guess_probed-beside (probe z b q s))
-        (λ h n k. inr (tried_here s k h (guess_ask z m deep' d b q s) (guess_ask-later z m deep' d searchGrows s b q s (later_refl s))))
+        (λ h n k. inr (tried_here s k h (guess_ask z m deep' d b q s) (guess_ask-later z m deep' d the_search_grows s b q s (later_refl s))))
 
     guess_set-beside : (a : Board) (c : Cell) (q : CellQueue) (s : Run) (v : Option Board) → TriedBeside (guess_set z l deep d a c q s v) (guess_set z m deep' d a c q s v)
     guess_set-beside a c q s none = inl refl

@@ -17,7 +17,7 @@ use Rattle.rules.specs.Lines.{reduce}
 use Rattle.rules.specs.Boards.{Board, Cell, at, size, Puzzle, line_count, row_of, column_of, line_cells, line_of, clue_at, crossing}
 use Rattle.rules.specs.Propagation.{Pending, pending, write, next, woken, pend, reduced, propagate_step, propagate_measure, propagate_on, propagate}
 use Rattle.rules.proofs.Tests.{on_option, by_test, clash, and_true, or_true}
-use Rattle.rules.proofs.Lists.{keep_few, keep_less, any_out, any_in, first_some, length_from, from_low, below, get_d_map}
+use Rattle.rules.proofs.Lists.{keep_few, keep_less, any_out, any_in, first_some, length_from, from_low, below, get_or-map}
 use Rattle.rules.proofs.Loops.{run_is, run_more, run_stop, run_ends}
 use Rattle.rules.proofs.Sets.{has-set_of}
 use Rattle.rules.proofs.Lines.{Bytes, reduce_under}
@@ -33,7 +33,7 @@ module _ (z : Puzzle) where
 
   -- lines of a board of bytes
   pub line_bytes_lem : (b : Board) (i : ℕ) → ((c : Cell) → at b c < 256) → Bytes (line_of z b i)
-  line_bytes_lem b i h j l = subst (λ s. s < 256) (sym (get_d_map (at b) (line_cells z i) j 0 0 (let e = length-map (line_cells z i) (at b) in omega arith))) (h (get_or (line_cells z i) j 0))
+  line_bytes_lem b i h j l = subst (λ s. s < 256) (sym (get_or-map (at b) (line_cells z i) j 0 0 (let e = length-map (line_cells z i) (at b) in omega arith))) (h (get_or (line_cells z i) j 0))
 
   -- the pending lines, one by one
   pub pend_has : (i : ℕ) (b a : Board) (p j : ℕ) → j < line_count z → has (pend z i b a p) j ≡ ((has p j && not (eqb j i)) || woken z i b a j)

@@ -20,7 +20,7 @@ use Rattle.rules.proofs.Runs.{store_in_lem, noted_limit, Grown, grown_same, grow
 
 module _ (z : Puzzle) (l : Limits) (k : ℕ) (few : k ≤ 7) where
   -- over a search that keeps its promise
-  module _ (deep : Board → List Guess → Run → Left) (d : ℕ) (searchPromise : SearchPromise z k deep) (a : Board) (s₀ : Run) where
+  module _ (deep : Board → List Guess → Run → Left) (d : ℕ) (the_search_promise : SearchPromise z k deep) (a : Board) (s₀ : Run) where
     -- inside the guess, against the board with the colour set
     record Inside (b : Board) (s : Run) : Type 0 where
       deduced : Deduced z k a b
@@ -59,7 +59,7 @@ module _ (z : Puzzle) (l : Limits) (k : ℕ) (few : k ≤ 7) where
           means = λ _. (λ g o. subst (λ e. In e s.stored) (sym (fits_one z k few i.deduced.playable h (i.deduced.keeps g o))) (f h).1, (b, fits_wider z i.deduced.sub (f h).0));
           grown = i.grown;
         })
-        (λ h. deeper_sound i (deep b (choose b ns) s) (searchPromise b (choose b ns) s i.deduced.playable h)))
+        (λ h. deeper_sound i (deep b (choose b ns) s) (the_search_promise b (choose b ns) s i.deduced.playable h)))
         (λ m _. at_limit m i)
 
     guess_probed-sound : (b : Board) (s : Run) → Inside b s → (r : Probed) → ProbedSound z k b r → ProbedBelow z b s r → TriedSound (guess_probed z l deep d r)

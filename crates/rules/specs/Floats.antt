@@ -18,10 +18,10 @@ higher a b = lt b a
 
 -- (4 minus unsolved neighbours, plus row rate) plus column rate; a rate is solved cells divided by the line's length
 unfoldable pub priority_of : ℕ → ℕ → ℕ → ℕ → ℕ → Float
-priority_of unsolved rowSolved rowLength columnSolved columnLength =
+priority_of unsolved row_solved row_length column_solved column_length =
     add binary64
-    (add binary64 (float (4 - unsolved)) (div binary64 (float rowSolved) (float rowLength)))
-    (div binary64 (float columnSolved) (float columnLength))
+    (add binary64 (float (4 - unsolved)) (div binary64 (float row_solved) (float row_length)))
+    (div binary64 (float column_solved) (float column_length))
 
 -- how many of some cells are solved
 abbrev pub solved_of : Board → List Cell → ℕ

@@ -6,7 +6,7 @@ use lib.ListN.{take, drop}
 use lib.Seq.{get_or-take}
 use Rattle.boards.specs.Board.{board_of}
 use Rattle.boards.proofs.Sizes.{board_cells, few_cells, board_length}
-use Rattle.boards.proofs.Parts.{length_part, get_d_part}
+use Rattle.boards.proofs.Parts.{length_part, get_or-part}
 use Rattle.runs.proofs.Grids.{alike_start, alike_turn, alike_fails, alike_end}
 use Rattle.runs.proofs.stored.differs.Goals as goal
 
@@ -35,7 +35,7 @@ returns-then-b-i c =
     let long = board_length a.b p.0 (board_cells a.b _ c.well_formed.0) in
     let part = length_part n a.at a.list.now p.1 in
     sym (ap not (alike_fails (board_of a.b) (take n (drop a.at a.list.now)) l.i l.invariant.0 (omega arith) (part ∙ sym long)
-    (λ e. c.if-b-i.true (sym (get_or-take n a.b.cells l.i 0 t) ∙ e ∙ get_d_part n a.at l.i a.list.now t))))
+    (λ e. c.if-b-i.true (sym (get_or-take n a.b.cells l.i 0 t) ∙ e ∙ get_or-part n a.at l.i a.list.now t))))
 
 pub overflow_add-i : goal.overflow_add-i
 overflow_add-i c = let p = c.requires.0 in omega (arith, few_cells _ p)
@@ -53,7 +53,7 @@ loop-i-preserved c =
     let long = board_length a.b p.0 (board_cells a.b _ c.well_formed.0) in
     let part = length_part n a.at a.list.now p.1 in (
       alike_turn (board_of a.b) (take n (drop a.at a.list.now)) l.i l.invariant.0 (omega arith) (part ∙ sym long)
-          (get_or-take n a.b.cells l.i 0 t ∙ c.if-b-i.false ∙ sym (get_d_part n a.at l.i a.list.now t)),
+          (get_or-take n a.b.cells l.i 0 t ∙ c.if-b-i.false ∙ sym (get_or-part n a.at l.i a.list.now t)),
       omega arith,
     )
 
