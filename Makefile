@@ -21,7 +21,7 @@ oracle:
 mends:
 	@tools/mends
 
-# And the search is proved to be that of the rules, both without the mend. It is no part of the gate, since it takes more than ten minutes.
+# And the search is proved to be that of the rules, both without the mend. It is no part of the gate, since it takes minutes.
 alike:
 	@tools/mends alike
 
