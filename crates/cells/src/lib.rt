@@ -6,11 +6,11 @@ ghost use Rattle.rules.specs.Sets.{has, single, only, without};
 ghost use Rattle.cells.specs.Sets.{including};
 
 // A colour: 0 is blank.
-#[derive(Clone, Copy, Debug, PartialEq, Eq)]
+#[derive(Clone, Copy, Debug, Default, PartialEq, Eq)]
 pub struct Colour(pub u8);
 
 // A cell's number: its row times the width, and its column.
-#[derive(Clone, Copy, Debug, PartialEq, Eq)]
+#[derive(Clone, Copy, Debug, Default, PartialEq, Eq)]
 pub struct CellNo(pub u16);
 
 // The set of one colour.
