@@ -1,6 +1,7 @@
 -- The rules of the search, told in `docs/RULES.md` in the same order: words on lists and loops, then each subject in a file of its own.
 pub mod Lists
 pub mod Loops
+pub mod Options
 pub mod Sets
 pub mod Clues
 pub mod Lines
@@ -13,6 +14,7 @@ pub mod Probing
 pub mod Guesses
 pub mod Search
 pub mod Answers
+pub mod Refusals
 pub mod Promises
 pub mod Longer
 pub mod Examples
