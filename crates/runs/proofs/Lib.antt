@@ -1,5 +1,3 @@
 -- What the proofs of this crate share, and the laws by which a run by value is one of the rules.
 pub mod Grids
-pub mod Adding
-pub mod Counts
 pub mod Matches

@@ -1,21 +1,31 @@
 -- The counts of a run by value.
-use Rattle.std.specs.Prelude.{true, false, ℕ, suc, ◌+◌, max, leb, ltb}
-use Rattle.rules.specs.Search.{first_of}
+use Rattle.std.specs.Prelude.{if◌then◌else◌, Option, None, Some, ℕ, suc, ◌+◌, max, leb, ltb}
+use Rattle.std.specs.Option.{option_or}
+use Rattle.runs.specs.declared.limits.Limit.{Limit}
+use Rattle.runs.specs.declared.limits.Limit.TheVariants.{Grids, Steps, Depth}
 use Rattle.runs.specs.declared.limits.Limits.{Limits}
 use Rattle.runs.specs.declared.limits.Stats.{Stats}
 
--- the limit that is met, asked in their order; 0 for none
-unfoldable pub limit_met : Stats → Limits → ℕ → ℕ
-limit_met s l d = elim (leb l.grids s.grids) [ true ↦ 1 | false ↦ elim (leb l.budget s.steps) [ true ↦ 2 | false ↦ elim (ltb l.depth d) [ true ↦ 3 | false ↦ 0 ] ] ]
+-- the limit's number: 0 for none
+abbrev pub limit_number : Option Limit → ℕ
+limit_number None = 0
+limit_number (Some Grids) = 1
+limit_number (Some Steps) = 2
+limit_number (Some Depth) = 3
 
-abbrev pub noted : ℕ → Stats → Stats
-noted m s = record { grids = s.grids; steps = s.steps; deepest = s.deepest; limit = first_of s.limit m }
+-- the limit that is met, asked in their order
+unfoldable pub limit_met : Stats → Limits → ℕ → Option Limit
+limit_met s l d = (if leb l.grids s.grids then Some Grids else (if leb l.budget s.steps then Some Steps else (if ltb l.depth d then Some Depth else None)))
+
+-- the first limit met is kept
+abbrev pub noted : Limit → Stats → Stats
+noted m s = record s { limit = option_or s.limit (Some m) }
 
 abbrev pub stepped : ℕ → Stats → Stats
-stepped n s = record { grids = s.grids; steps = s.steps + n; deepest = s.deepest; limit = s.limit }
+stepped n s = record s { steps = s.steps + n }
 
 abbrev pub deeper : ℕ → Stats → Stats
-deeper d s = record { grids = s.grids; steps = s.steps; deepest = max s.deepest (suc d); limit = s.limit }
+deeper d s = record s { deepest = max s.deepest (suc d) }
 
 abbrev pub one_more : Stats → Stats
-one_more s = record { grids = s.grids + 1; steps = s.steps; deepest = s.deepest; limit = s.limit }
+one_more s = record s { grids = s.grids + 1 }

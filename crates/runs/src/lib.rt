@@ -4,5 +4,5 @@
 mod limits;
 mod stored;
 
-pub use limits::{Limits, Stats, limits_reached};
+pub use limits::{Limit, Limits, Stats, limit_number, limits_reached};
 pub use stored::add_solution;

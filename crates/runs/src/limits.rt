@@ -1,6 +1,6 @@
 // The counts of a run, and its limits.
 ghost use Rattle.std.specs.Prelude.{◌≡◌, ◌+◌, ◌^◌, ◌<◌};
-ghost use Rattle.runs.specs.Stats.{limit_met, noted, stepped, deeper};
+ghost use Rattle.runs.specs.Stats.{limit_met, limit_number, noted, stepped, deeper};
 
 // The most grids, the most depth, and the step budget.
 #[derive(Clone, Copy)]
@@ -10,45 +10,61 @@ pub struct Limits {
     pub budget: u64,
 }
 
-// Grids stored, steps, deepest, and the first limit met: 0 none, 1 grids, 2 steps, 3 depth.
+// What a run may be limited in.
+#[derive(Clone, Copy, Debug, PartialEq, Eq)]
+pub enum Limit {
+    Grids,
+    Steps,
+    Depth,
+}
+
+// The number by which the first limit met is answered: 0 none, 1 grids, 2 steps, 3 depth.
+pub fn limit_number(limit: Option<Limit>) -> u8
+    ensures { result ≡ limit_number limit }
+{
+    match limit {
+        None => 0,
+        Some(Limit::Grids) => 1,
+        Some(Limit::Steps) => 2,
+        Some(Limit::Depth) => 3,
+    }
+}
+
+// Grids stored, steps, deepest, and the first limit met.
 #[derive(Clone, Copy)]
 pub struct Stats {
     pub grids: usize,
     pub steps: u64,
     pub deepest: usize,
-    pub limit: u8,
+    pub limit: Option<Limit>,
 }
 
-// The limit that is met, asked in this order: grids, steps, depth; 0 for none.
-pub fn limits_reached(s: Stats, l: Limits, depth: usize) -> u8
+// The limit that is met, asked in this order: grids, steps, depth.
+#[tactic(auto, unfolding(crate::specs::Stats::limit_met))]
+pub fn limits_reached(s: Stats, l: Limits, depth: usize) -> Option<Limit>
     ensures { result ≡ limit_met s l depth }
 {
     if l.grids <= s.grids {
-        return 1;
+        return Some(Limit::Grids);
     }
     if l.budget <= s.steps {
-        return 2;
+        return Some(Limit::Steps);
     }
     if l.depth < depth {
-        return 3;
+        return Some(Limit::Depth);
     }
-    0
+    None
 }
 
 impl Stats {
     // The first limit met is kept.
-    pub fn noted(self, m: u8) -> Stats
+    pub fn noted(self, m: Limit) -> Stats
         ensures { result ≡ noted m self }
     {
-        if self.limit == 0 {
-            return Stats {
-                grids: self.grids,
-                steps: self.steps,
-                deepest: self.deepest,
-                limit: m,
-            };
+        Stats {
+            limit: self.limit.or(Some(m)),
+            ..self
         }
-        self
     }
 
     // More steps.
@@ -57,10 +73,8 @@ impl Stats {
         ensures { result ≡ stepped n self }
     {
         Stats {
-            grids: self.grids,
             steps: self.steps + n,
-            deepest: self.deepest,
-            limit: self.limit,
+            ..self
         }
     }
 
@@ -69,15 +83,9 @@ impl Stats {
         requires { depth + 1 < 2 ^ 64 }
         ensures { result ≡ deeper depth self }
     {
-        let next = depth + 1;
-        if self.deepest < next {
-            return Stats {
-                grids: self.grids,
-                steps: self.steps,
-                deepest: next,
-                limit: self.limit,
-            };
+        Stats {
+            deepest: self.deepest.max(depth + 1),
+            ..self
         }
-        self
     }
 }

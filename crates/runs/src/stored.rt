@@ -1,28 +1,11 @@
 // Storing a grid in the caller's list, unless it is stored already.
-ghost use Rattle.std.specs.Prelude.{◌≡◌, not, ◌+◌, ◌*◌, ◌≤◌, length, take, drop};
+ghost use Rattle.std.specs.Prelude.{◌≡◌, ◌+◌, ◌*◌, ◌≤◌, length};
 ghost use Rattle.std.proofs.Math.Seq.{paste};
-ghost use Rattle.rules.specs.Boards.{same};
 ghost use Rattle.boards.specs.Board.{board_of, Sized};
 ghost use Rattle.runs.specs.Stored.{found, Added};
 
 use crate::limits::Stats;
 use boards::Board;
-
-// Whether the grid that begins at a byte of the list is another than the board.
-fn differs(b: Board, list: &[u8], at: usize) -> bool
-    requires { Sized b × (at + b.w * b.h ≤ length list.now) }
-    ensures { result ≡ not (same (board_of b) (take (b.w * b.h) (drop at list.now))) }
-{
-    let n = b.w * b.h;
-    let mut i: usize = 0;
-    while i < n {
-        if b.cells[i] != list[at + i] {
-            return true;
-        }
-        i += 1;
-    }
-    false
-}
 
 // Whether the board is one of the list's first grids.
 fn already_found(b: Board, list: &[u8], grids: usize) -> bool
@@ -30,12 +13,10 @@ fn already_found(b: Board, list: &[u8], grids: usize) -> bool
     ensures { result ≡ found (board_of b) (b.w * b.h) grids list.now }
 {
     let n = b.w * b.h;
-    let mut g: usize = 0;
-    while g < grids {
-        if !differs(b, list, g * n) {
+    for g in 0..grids {
+        if b.cells[..n] == list[g * n..(g + 1) * n] {
             return true;
         }
-        g += 1;
     }
     false
 }
@@ -46,11 +27,7 @@ fn copy_grid(b: Board, list: &mut [u8], at: usize)
     ensures { list.new ≡ paste list.old at b.cells (b.w * b.h) }
 {
     let n = b.w * b.h;
-    let mut i: usize = 0;
-    while i < n {
-        list[at + i] = b.cells[i];
-        i += 1;
-    }
+    list[at..at + n].copy_from_slice(&b.cells[..n]);
 }
 
 // Storing skips a grid equal to one stored already. It stores none past the most grids, which never happens in a search.
@@ -68,8 +45,6 @@ pub fn add_solution(b: Board, list: &mut [u8], s: Stats, most: usize) -> Stats
     copy_grid(b, list, s.grids * n);
     Stats {
         grids: s.grids + 1,
-        steps: s.steps,
-        deepest: s.deepest,
-        limit: s.limit,
+        ..s
     }
 }
