@@ -2,7 +2,9 @@
 use mathlib.Core.Path.{◌≡◌, refl, ap, sym, subst, ◌∙◌}
 use mathlib.Core.Bool.{Bool, true, false}
 use mathlib.Core.List.{List, [], ◌∷◌}
-use mathlib.Core.Option.{Option, none, some}
+use Rattle.std.specs.Prelude.{Option, MatchOption}
+use Rattle.std.proofs.Math.Option.{none, some}
+use Rattle.std.proofs.Math.Option as math
 use Prim.Native.Nat.{ℕ, ◌-◌, ◌≤◌}
 use native.Mathlib.Omega.{arith}
 use lib.Dec.{eqb}
@@ -13,11 +15,9 @@ use Rattle.rules.specs.Clues.{Clue, regular, pair_bytes, line_bytes, Read, read,
 use Rattle.rules.specs.Lines.{reduce}
 use Rattle.rules.specs.Answers.{colour_count, line_cells?, LineAnswer, line, line_reduced, reduce_line}
 use Rattle.rules.specs.Promises.{LineAccepted, LinePromised}
-use Rattle.rules.proofs.Tests.{clash}
 use Rattle.rules.proofs.Clues.{read_line-exact, clue_of-exact}
 use Rattle.rules.proofs.Accepting.{few_colours}
 use Rattle.rules.proofs.OneLine.{line_few, line_bytes_lem, line_answer, line_promised}
-use Rattle.lines.specs.declared.layout.LineRead.{LineRead}
 use Rattle.lines.specs.declared.machine.Machine.{Machine}
 use Rattle.lines.specs.Layout.{line_read, given, first_fault, refusal}
 use Rattle.lines.specs.Machines.{clue_in, Legal, machine_of, reduce_by}
@@ -26,26 +26,18 @@ use Rattle.lines.proofs.Reducing.{machine_reduces}
 
 -- ## Whether the bytes are one clue
 
-module _ (k : ℕ) (bytes : List ℕ) (r : LineRead) (is : r ≡ line_read (length bytes) (read_line k bytes)) where
-  pub given_end : r.ok ≡ true → eqb r.end (length bytes) ≡ given (clue_of k bytes)
-  unfolding clue_of
-  given_end ok = go (read_line k bytes) refl is
-    where
-      go : (x : Read Clue) → read_line k bytes ≡ x → r ≡ line_read (length bytes) x → eqb r.end (length bytes) ≡ given (whole x)
-      go broken h q = clash ok (ap (λ y. y.ok) q)
-      go (read clue []) h q = let z = ap (λ y. y.end) q in eq-eqb r.end (length bytes) (omega arith)
-      go (read clue (x ∷ rest)) h q =
-          let z = ap (λ y. y.end) q in
-          let n = ap length ((read_line-exact k bytes clue (x ∷ rest)).0 h).1 ∙ length-append (line_bytes clue) (x ∷ rest) in
-          ne_eqb r.end (length bytes) (λ e. omega arith)
-
-  pub given_not : r.ok ≡ false → r.ok ≡ given (clue_of k bytes)
-  unfolding clue_of
-  given_not no_line = go (read_line k bytes) is
-    where
-      go : (x : Read Clue) → r ≡ line_read (length bytes) x → r.ok ≡ given (whole x)
-      go broken q = no_line
-      go (read clue rest) q = clash (ap (λ y. y.ok) q) no_line
+-- a line is read that ends where the bytes end
+pub whole_given : (k : ℕ) (bytes : List ℕ) (r : Option ℕ) (v : Bool) {P : ℕ → Type 0} → r ≡ line_read (length bytes) (read_line k bytes) → MatchOption r (v ≡ false) P → ((end : ℕ) → P end → v ≡ eqb end (length bytes)) →
+    v ≡ given (clue_of k bytes)
+unfolding clue_of
+whole_given k bytes r v {P} is h ends = go (read_line k bytes) refl (subst (λ x. MatchOption x (v ≡ false) P) is h)
+  where
+    go : (x : Read Clue) → read_line k bytes ≡ x → MatchOption (line_read (length bytes) x) (v ≡ false) P → v ≡ given (whole x)
+    go broken e q = q
+    go (read clue []) e q = ends (length bytes - 0) q ∙ eq-eqb (length bytes - 0) (length bytes) (omega arith)
+    go (read clue (x ∷ rest)) e q =
+        let n = ap length ((read_line-exact k bytes clue (x ∷ rest)).0 e).1 ∙ length-append (line_bytes clue) (x ∷ rest) in
+        ends (length bytes - length (x ∷ rest)) q ∙ ne_eqb (length bytes - length (x ∷ rest)) (length bytes) (λ z. omega arith)
 
 -- ## Refusals
 
@@ -70,7 +62,7 @@ module _ (k : ℕ) (bytes cells : List ℕ) where
   unfolding refusal reduce_line
   refused_answer n e some-fault = go (colour_count k) (clue_of k bytes) (line_cells? k cells) e
     where
-      go : (u : Bool) (o : Option Clue) (v : Bool) → n ≡ first_fault u (given o) v →
+      go : (u : Bool) (o : math.Option Clue) (v : Bool) → n ≡ first_fault u (given o) v →
           line n cells ≡ (elim u as (λ _. LineAnswer) [
             | true ↦ elim o [ some clue ↦ elim v [ true ↦ line_reduced cells (reduce clue cells) | false ↦ line 15 cells ] | none ↦ line 14 cells ]
             | false ↦ line 12 cells
@@ -92,7 +84,7 @@ pub accepted : (k : ℕ) (bytes cells : List ℕ) → refusal k bytes cells ≡ 
 unfolding refusal
 accepted k bytes cells e = go (colour_count k) refl (clue_of k bytes) refl (line_cells? k cells) refl e
   where
-    go : (u : Bool) → colour_count k ≡ u → (o : Option Clue) → clue_of k bytes ≡ o → (v : Bool) → line_cells? k cells ≡ v → first_fault u (given o) v ≡ 0 → Accepted k bytes cells
+    go : (u : Bool) → colour_count k ≡ u → (o : math.Option Clue) → clue_of k bytes ≡ o → (v : Bool) → line_cells? k cells ≡ v → first_fault u (given o) v ≡ 0 → Accepted k bytes cells
     go true p (some clue) q true s h = (clue, record { colours = p; read = q; sets = s })
     go true p (some clue) q false s h = absurd (omega arith)
     go true p none q true s h = absurd (omega arith)

@@ -1,23 +1,16 @@
 -- Reading what a caller hands over: one turn of each loop, and what a line that was read right is.
-use mathlib.Core.Path.{◌≡◌, refl, ap, sym, ◌∙◌}
-use mathlib.Core.Bool.{Bool, true, false, ◌&&◌}
-use mathlib.Core.List.{List, [], ◌∷◌}
-use Prim.Native.Nat.{ℕ, suc, ◌+◌, ◌-◌, ◌/◌, ◌^◌, ◌≤◌, ◌<◌}
-use native.Mathlib.Nat.{div-eq_of_lt, le-div_iff_mul-le}
-use native.Mathlib.Numerals.{add-one}
-use native.Mathlib.Omega.{arith}
-use lib.Dec.{leb, ltb, eqb}
-use lib.ListN.{length, get_or, take, drop, length-append, length-drop, drop_of_length-le}
-use lib.Pow.{pow_pos}
-use lib.Seq.{drop-cons, drop-drop, drop-append_seam, take_at}
-use borrow.Author.Tests.{eq-eqb, ne_eqb, ltb-true, ltb-false, leb-true, le-leb, lt-leb}
+use Rattle.std.proofs.Common.{◌≡◌, refl, ap, sym, ◌∙◌, Bool, true, false, ◌&&◌, List, [], ◌∷◌, ℕ, zero, suc, ◌+◌, ◌-◌, ◌*◌, ◌≤◌, ◌<◌, leb, length, get_or, take, drop, length-append, length-drop, drop_of_length-le, drop-cons, add-one, length-take-le, take-append-drop, drop-drop, take_at, ◌++◌, Some, None, arith, leb-true, le-leb}
+use borrow.Author.Tests.{lt-leb}
+use Rattle.std.specs.Bool.{then_some}
+use Rattle.std.specs.List.{list_all}
+use Rattle.std.specs.Simd.{first_chunks}
+use Rattle.std.proofs.lemmas.List.Recursion.{same_from_clauses}
+use lib.Seq.{drop-append_seam}
 use Rattle.rules.specs.Lists.{every}
-use Rattle.rules.specs.Sets.{proper}
 use Rattle.rules.specs.Clues.{Block, Clue, within, allowed, regular, pair_bytes, line_bytes, Read, read, broken, ahead, read_pairs, read_line}
-use Rattle.rules.proofs.Tests.{by_test, clash, and_true, true_and}
+use Rattle.rules.proofs.Tests.{on_test, and_true, true_and}
 use Rattle.rules.proofs.Clues.{read_line-exact}
-use Rattle.lines.specs.declared.layout.LineRead.{LineRead}
-use Rattle.lines.specs.Layout.{broken_line, line_read}
+use Rattle.lines.specs.Layout.{line_read}
 use Rattle.lines.specs.Machines.{clue_in, Legal}
 
 -- ## Tests made one after the other
@@ -30,115 +23,77 @@ then_not u v e = rw e
 
 -- ## Cells
 
-shifted_out : (s n : ℕ) → eqb (s / 2 ^ n) 0 ≡ ltb s (2 ^ n)
-shifted_out s n = by_test (ltb s (2 ^ n))
-    (λ e. let l = ltb-true s (2 ^ n) e in eq-eqb (s / 2 ^ n) 0 (div-eq_of_lt l) ∙ sym e)
-    (λ e. let l = ltb-false s (2 ^ n) e in ne_eqb (s / 2 ^ n) 0 (λ z. omega (arith, (le-div_iff_mul-le {x = 1} {y = s} (pow_pos n)).1 (omega arith))) ∙ sym e)
-
-pub proper_low : (k s : ℕ) → 1 ≤ s → eqb (s / 2 ^ (k + 1)) 0 ≡ proper k s
-unfolding proper
-proper_low k s h = shifted_out s (k + 1) ∙ ap (λ n. ltb s (2 ^ n)) (add-one k) ∙ then_also (leb 1 s) (ltb s (2 ^ suc k)) (le-leb 1 s h)
-
-pub proper_none : (k s : ℕ) → s < 1 → leb 1 s ≡ proper k s
-unfolding proper
-proper_none k s h = then_not (leb 1 s) (ltb s (2 ^ suc k)) (lt-leb 1 s h)
-
-pub every_none : (p : ℕ → Bool) (cells : List ℕ) (i : ℕ) → length cells ≤ i → true ≡ every p (drop i cells)
-every_none p cells i h = ap (every p) (sym (drop_of_length-le cells {i = i} h))
-
-every_next : (p : ℕ → Bool) (cells : List ℕ) (i : ℕ) → i < length cells → every p (drop i cells) ≡ p (get_or cells i 0) && every p (drop (i + 1) cells)
-every_next p cells i h = ap (every p) (drop-cons cells i 0 h) ∙ ap (λ n. p (get_or cells i 0) && every p (drop n cells)) (sym (add-one i))
-
-pub every_again : (p : ℕ → Bool) (cells : List ℕ) (i : ℕ) (v r : Bool) → i < length cells → v ≡ p (get_or cells i 0) → v ≡ true → every p (drop i cells) ≡ r → every p (drop (i + 1) cells) ≡ r
-every_again p cells i v r h q t e = then_also (p (get_or cells i 0)) (every p (drop (i + 1) cells)) (sym q ∙ t) ∙ sym (every_next p cells i h) ∙ e
-
-pub every_fails : (p : ℕ → Bool) (cells : List ℕ) (i : ℕ) (v r : Bool) → i < length cells → v ≡ p (get_or cells i 0) → v ≡ false → every p (drop i cells) ≡ r → false ≡ r
-every_fails p cells i v r h q t e = sym t ∙ q ∙ then_not (p (get_or cells i 0)) (every p (drop (i + 1) cells)) (sym q ∙ t) ∙ sym (every_next p cells i h) ∙ e
-
--- ## Pairs
-
--- the block that stands at byte `end`
-abbrev block_at : List ℕ → ℕ → Block
-block_at bytes end = record { colour = get_or bytes end 0; cells = get_or bytes (end + 1) 0 }
-
-drop_pair : (bytes : List ℕ) (end : ℕ) → end + 1 < length bytes → drop end bytes ≡ get_or bytes end 0 ∷ get_or bytes (end + 1) 0 ∷ drop (end + 2) bytes
-drop_pair bytes end h =
-    let e : suc (end + 1) ≡ end + 2 = omega arith in
-    drop-cons bytes end 0 (omega arith)
-    ∙ ap (λ l. get_or bytes end 0 ∷ l) (ap (λ i. drop i bytes) (sym (add-one end)) ∙ drop-cons bytes (end + 1) 0 h ∙ ap (λ i. get_or bytes (end + 1) 0 ∷ drop i bytes) e)
-
--- a block in front does not change where the line ends
-ahead_end : (l : ℕ) (b : Block) (r : Read Clue) → line_read l (ahead b r) ≡ line_read l r
-ahead_end l b broken = refl
-ahead_end l b (read clue rest) = refl
-
--- what was read, if a test passes
-abbrev passed : Bool → Read Clue → Read Clue
-passed v r = elim v [ true ↦ r | false ↦ broken ]
-
-few_broken : (k m : ℕ) (bytes : List ℕ) → length bytes < 2 → read_pairs k (suc m) bytes ≡ broken
-unfolding read_pairs
-few_broken k m [] h = refl
-few_broken k m (x ∷ []) h = refl
-few_broken k m (x ∷ y ∷ bytes) h = absurd (omega arith)
-
-module _ (k n : ℕ) (bytes : List ℕ) (i end : ℕ) (r : LineRead) (so_far : line_read (length bytes) (read_pairs k (n - i) (drop end bytes)) ≡ r) where
-  -- the pairs left are read
-  pub pairs_over : n ≤ i → end ≤ length bytes → record { ok = true; end = end } ≡ r
-  unfolding read_pairs
-  pairs_over h l =
-      let z : n - i ≡ 0 = omega arith in
-      let e : end ≡ length bytes - length (drop end bytes) = omega (arith, length-drop end bytes) in
-      ap {B = LineRead} (λ x. record { ok = true; end = x }) e ∙ ap (λ m. line_read (length bytes) (read_pairs k m (drop end bytes))) (sym z) ∙ so_far
-
-  module _ (more : i < n) where
-    one_more : n - i ≡ suc (n - (i + 1))
-    one_more = omega arith
-
-    pub pairs_short : length bytes - end < 2 → broken_line ≡ r
-    pairs_short h =
-        sym (ap (λ m. line_read (length bytes) (read_pairs k m (drop end bytes))) one_more
-        ∙ ap (line_read (length bytes)) (few_broken k (n - (i + 1)) (drop end bytes) (omega (arith, length-drop end bytes))))
-        ∙ so_far
-
-    module _ (v : Bool) (room : end + 1 < length bytes) (tested : v ≡ allowed k (block_at bytes end)) where
-      later : Read Clue
-      later = ahead (block_at bytes end) (read_pairs k (n - (i + 1)) (drop (end + 2) bytes))
-
-      next : line_read (length bytes) (passed v later) ≡ r
-      unfolding read_pairs later
-      next =
-          ap (λ u. line_read (length bytes) (passed u later)) tested
-          ∙ sym (ap (λ m. line_read (length bytes) (read_pairs k m (drop end bytes))) one_more ∙ ap (λ l. line_read (length bytes) (read_pairs k (suc (n - (i + 1))) l)) (drop_pair bytes end room))
-          ∙ so_far
-
-      pub pairs_again : v ≡ true → line_read (length bytes) (read_pairs k (n - (i + 1)) (drop (end + 2) bytes)) ≡ r
-      unfolding later
-      pairs_again t =
-          sym (ap (λ u. line_read (length bytes) (passed u later)) t
-          ∙ ahead_end (length bytes) (block_at bytes end) (read_pairs k (n - (i + 1)) (drop (end + 2) bytes)))
-          ∙ next
-
-      pub pairs_fail : v ≡ false → broken_line ≡ r
-      pairs_fail t = sym (ap (λ u. line_read (length bytes) (passed u later)) t) ∙ next
+pub every_is : (p : ℕ → Bool) (cells : List ℕ) → list_all p cells ≡ every p cells
+every_is p = same_from_clauses (list_all p) (every p) (λ x r. p x && r) refl (λ x xs. refl) (λ x xs. refl)
 
 -- ## A line
 
-module _ (k : ℕ) (bytes : List ℕ) (at : ℕ) where
-  pub line_missing : length bytes ≤ at → broken_line ≡ line_read (length bytes) (read_line k (drop at bytes))
+-- a pair of bytes that the layout allows
+abbrev pub pair_allowed : ℕ → List ℕ → Bool
+pair_allowed k pair = allowed k (record { colour = get_or pair 0 0; cells = get_or pair 1 0 })
+
+-- a block in front does not change where the line ends
+ahead_end : (m : ℕ) (b : Block) (r : Read Clue) → line_read m (ahead b r) ≡ line_read m r
+ahead_end m b broken = refl
+ahead_end m b (read clue rest) = refl
+
+-- the pairs are not all there
+few_broken : (k m n : ℕ) (bytes : List ℕ) → length bytes < 2 * n → line_read m (read_pairs k n bytes) ≡ None
+unfolding read_pairs
+few_broken k m zero bytes h = absurd (omega arith)
+few_broken k m (suc n) [] h = refl
+few_broken k m (suc n) (c ∷ []) h = refl
+few_broken k m (suc n) (c ∷ l ∷ bytes) h =
+    on_test (λ r. line_read m r ≡ None) (pair_allowed k (c ∷ l ∷ [])) (λ e. ahead_end m _ (read_pairs k n bytes) ∙ few_broken k m n bytes (omega arith)) (λ e. refl)
+
+-- they are there, in front of the rest
+pairs_read : (k m n : ℕ) (front rest : List ℕ) → length front ≡ 2 * n → line_read m (read_pairs k n (front ++ rest)) ≡ then_some (list_all (pair_allowed k) (first_chunks 2 n front)) (m - length rest)
+unfolding read_pairs
+pairs_read k m zero [] rest h = refl
+pairs_read k m zero (c ∷ front) rest h = absurd (omega arith)
+pairs_read k m (suc n) [] rest h = absurd (omega arith)
+pairs_read k m (suc n) (c ∷ []) rest h = absurd (omega arith)
+pairs_read k m (suc n) (c ∷ l ∷ front) rest h = step (pair_allowed k (c ∷ l ∷ [])) _ _ _ (ahead_end m _ (read_pairs k n (front ++ rest)) ∙ pairs_read k m n front rest (omega arith))
+  where
+    step : (v u : Bool) (r : Read Clue) (x : ℕ) → line_read m r ≡ then_some u x → line_read m (elim v [ true ↦ r | false ↦ broken ]) ≡ then_some (v && u) x
+    step true u r x e = e
+    step false u r x e = refl
+
+-- n pairs from byte `at` on: there are fewer bytes, or `part` has their bytes
+module _ (k n at : ℕ) (bytes : List ℕ) where
+  pub pairs_missing : at ≤ length bytes → length bytes < at + 2 * n → None ≡ line_read (length bytes) (read_pairs k n (drop at bytes))
+  pairs_missing l h = sym (few_broken k (length bytes) n (drop at bytes) (omega (arith, length-drop at bytes)))
+
+  pub pairs_there : (part : List ℕ) → at + 2 * n ≤ length bytes → part ≡ take (at + 2 * n - at) (drop at bytes) →
+      then_some (list_all (pair_allowed k) (first_chunks 2 n part)) (at + 2 * n) ≡ line_read (length bytes) (read_pairs k n (drop at bytes))
+  pairs_there part h e =
+      let rest = drop (2 * n) (drop at bytes) in
+      let w : at + 2 * n - at ≡ 2 * n = omega arith in
+      let p : part ≡ take (2 * n) (drop at bytes) = e ∙ ap (λ i. take i (drop at bytes)) w in
+      let l = length-drop at bytes in
+      let long : length part ≡ 2 * n = ap length p ∙ length-take-le (2 * n) (drop at bytes) (omega arith) in
+      let z : at + 2 * n ≡ length bytes - length rest = omega (arith, length-drop (2 * n) (drop at bytes)) in
+      ap (then_some (list_all (pair_allowed k) (first_chunks 2 n part))) z
+      ∙ sym (pairs_read k (length bytes) n part rest long)
+      ∙ ap (λ b. line_read (length bytes) (read_pairs k n b)) (ap (λ f. f ++ rest) p ∙ take-append-drop (2 * n) (drop at bytes))
+
+-- the line from byte `at` on: its count n, and its pairs
+module _ (k at : ℕ) (bytes : List ℕ) where
+  pub line_missing : length bytes ≤ at → None ≡ line_read (length bytes) (read_line k (drop at bytes))
   unfolding read_line
-  line_missing h = sym (ap (λ l. line_read (length bytes) (read_line k l)) (drop_of_length-le bytes {i = at} h))
+  line_missing h = rw (drop_of_length-le bytes {i = at} h)
 
-  line_next : at < length bytes → read_line k (drop at bytes) ≡ passed (leb (get_or bytes at 0) 16) (read_pairs k (get_or bytes at 0) (drop (at + 1) bytes))
-  unfolding read_line
-  line_next h = ap (read_line k) (drop-cons bytes at 0 h ∙ ap (λ i. get_or bytes at 0 ∷ drop i bytes) (sym (add-one at)))
+  module _ (n : ℕ) (inside : at < length bytes) (count : n ≡ get_or bytes at n) where
+    counted : drop at bytes ≡ n ∷ drop (at + 1) bytes
+    counted = rw (add-one) (drop-cons bytes at n inside ∙ ap (λ m. m ∷ drop (suc at) bytes) (sym count))
 
-  pub line_long : at < length bytes → 16 < get_or bytes at 0 → broken_line ≡ line_read (length bytes) (read_line k (drop at bytes))
-  line_long h l = sym (ap (line_read (length bytes)) (line_next h ∙ ap (λ v. passed v (read_pairs k (get_or bytes at 0) (drop (at + 1) bytes))) (lt-leb (get_or bytes at 0) 16 l)))
+    pub line_long : 16 < n → None ≡ line_read (length bytes) (read_line k (drop at bytes))
+    unfolding read_line
+    line_long h = rw (counted, read_line, lt-leb n 16 h)
 
-  pub line_pairs : (r : LineRead) → at < length bytes → get_or bytes at 0 ≤ 16 → r ≡ line_read (length bytes) (read_pairs k (get_or bytes at 0) (drop (at + 1) bytes)) →
-      r ≡ line_read (length bytes) (read_line k (drop at bytes))
-  line_pairs r h l e = e ∙ sym (ap (line_read (length bytes)) (line_next h ∙ ap (λ v. passed v (read_pairs k (get_or bytes at 0) (drop (at + 1) bytes))) (le-leb (get_or bytes at 0) 16 l)))
+    pub line_pairs : n ≤ 16 → line_read (length bytes) (read_pairs k n (drop (at + 1) bytes)) ≡ line_read (length bytes) (read_line k (drop at bytes))
+    unfolding read_line
+    line_pairs h = rw (counted, read_line, le-leb n 16 h)
 
 -- ## The clue that was read
 
@@ -179,24 +134,24 @@ pub record RightLine (k : ℕ) (bytes : List ℕ) (at end : ℕ) : Type 0 where
   pub inside : end ≤ length bytes
   pub pairs : take (end - (at + 1)) (drop (at + 1) bytes) ≡ pair_bytes clue
 
-pub line_right : (k : ℕ) (bytes : List ℕ) (at : ℕ) (r : LineRead) → r ≡ line_read (length bytes) (read_line k (drop at bytes)) → r.ok ≡ true → RightLine k bytes at r.end
-line_right k bytes at r e ok = go (read_line k (drop at bytes)) refl e
+pub line_right : (k : ℕ) (bytes : List ℕ) (at end : ℕ) → Some end ≡ line_read (length bytes) (read_line k (drop at bytes)) → RightLine k bytes at end
+line_right k bytes at end e = go (read_line k (drop at bytes)) refl e
   where
-    go : (x : Read Clue) → read_line k (drop at bytes) ≡ x → r ≡ line_read (length bytes) x → RightLine k bytes at r.end
-    go broken h q = clash ok (ap (λ y. y.ok) q)
+    go : (x : Read Clue) → read_line k (drop at bytes) ≡ x → Some end ≡ line_read (length bytes) x → RightLine k bytes at end
+    go broken h q = absurd (cc)
     go (read clue rest) h q =
         let w = (read_line-exact k (drop at bytes) clue rest).0 h in
         let n = ap length w.1 ∙ length-append (line_bytes clue) rest in
         let l = length-drop at bytes in
-        let z : r.end ≡ length bytes - length rest = ap (λ y. y.end) q in
-        let s : at + length (line_bytes clue) ≡ r.end = omega arith in
-        let t : length (pair_bytes clue) ≡ r.end - (at + 1) = omega arith in
-        let d : drop r.end bytes ≡ rest = ap (λ i. drop i bytes) (sym s) ∙ sym (drop-drop (length (line_bytes clue)) at bytes) ∙ ap (drop (length (line_bytes clue))) w.1 ∙ drop-append_seam (line_bytes clue) rest in
+        let z : end ≡ length bytes - length rest = cc in
+        let s : at + length (line_bytes clue) ≡ end = omega arith in
+        let t : length (pair_bytes clue) ≡ end - (at + 1) = omega arith in
+        let d : drop end bytes ≡ rest = ap (λ i. drop i bytes) (sym s) ∙ sym (drop-drop (length (line_bytes clue)) at bytes) ∙ ap (drop (length (line_bytes clue))) w.1 ∙ drop-append_seam (line_bytes clue) rest in
         record {
           clue = clue;
           is = h ∙ ap (read clue) (sym d);
           right = w.0;
           after = omega arith;
           inside = omega arith;
-          pairs = ap (take (r.end - (at + 1))) (sym (drop-drop 1 at bytes) ∙ ap (drop 1) w.1) ∙ take_at (pair_bytes clue) rest (r.end - (at + 1)) t;
+          pairs = ap (take (end - (at + 1))) (sym (drop-drop 1 at bytes) ∙ ap (drop 1) w.1) ∙ take_at (pair_bytes clue) rest (end - (at + 1)) t;
         }

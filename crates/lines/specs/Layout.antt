@@ -1,22 +1,19 @@
 -- What reading the layout of a line's clue answers, and by which number a line with its clue is refused.
-use Rattle.std.specs.Prelude.{Bool, true, false, List, ℕ, ◌-◌, length}
-use Rattle.std.proofs.Math.Option.{Option, none, some}
+use Rattle.std.specs.Prelude.{Bool, true, false, List, ℕ, ◌-◌, length, Option, Some, None}
+use Rattle.std.proofs.Math.Option.{none, some}
+use Rattle.std.proofs.Math.Option as math
 use Rattle.rules.specs.Clues.{Clue, Read, read, broken, clue_of}
 use Rattle.rules.specs.Answers.{colour_count, line_cells?}
-use Rattle.lines.specs.declared.layout.LineRead.{LineRead}
 
-abbrev pub broken_line : LineRead
-broken_line = record { ok = false; end = 0 }
-
--- whether the line was read, from n bytes, and the number of the byte that follows it
-abbrev pub line_read : ℕ → Read Clue → LineRead
-line_read n broken = broken_line
-line_read n (read clue rest) = record { ok = true; end = n - length rest }
+-- before which of n bytes the line that was read ends; none where the layout is broken
+abbrev pub line_read : ℕ → Read Clue → Option ℕ
+line_read n broken = None
+line_read n (read clue rest) = Some (n - length rest)
 
 -- ## One line with its clue
 
 -- whether there is a clue
-abbrev pub given : Option Clue → Bool
+abbrev pub given : math.Option Clue → Bool
 given none = false
 given (some clue) = true
 

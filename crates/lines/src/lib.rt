@@ -6,7 +6,7 @@ mod machine;
 mod reduction;
 mod single;
 
-pub use layout::{LineRead, all_proper, read_line, within};
-pub use machine::{Machine, machine_of};
+pub use layout::{all_proper, read_line, within};
+pub use machine::{Machine, closed, machine_of};
 pub use reduction::reduce_by;
 pub use single::reduce_line;

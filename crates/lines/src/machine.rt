@@ -3,10 +3,7 @@ ghost use Rattle.std.specs.Prelude.{◌≡◌, [], ◌-◌, ◌/◌, ◌≤◌, 
 ghost use Rattle.rules.specs.Lines.{between};
 ghost use Rattle.lines.specs.Machines.{pushed, pushed_all, machine, closed, need, machine_of, Room, clue_in, block_in, rest_in, Legal};
 
-use rules::LARGEST_SIDE;
-
-// A byte has room for this many colours, blank among them.
-const COLOURS: usize = 8;
+use rules::{COLOURS, LARGEST_SIDE};
 
 // See specs/Machines.antt: a mask of states for each colour, those in which a blank may stay, and those at the end.
 #[derive(Clone, Copy)]
@@ -28,7 +25,7 @@ fn empty() -> Machine
 }
 
 // The machine that accepts no line.
-fn closed() -> Machine
+pub fn closed() -> Machine
     ensures { result ≡ closed }
 {
     Machine {

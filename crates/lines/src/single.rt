@@ -17,8 +17,7 @@ use rules::{
 fn clue_given(k: usize, clue: &[u8]) -> bool
     ensures { result ≡ given (clue_of k clue.now) }
 {
-    let read = read_line(k, clue, 0);
-    read.ok && read.end == clue.len()
+    read_line(k, clue, 0).is_some_and(|end| end == clue.len())
 }
 
 // Whether there are 1 to 16 cells that may be given.

@@ -1,9 +1,11 @@
--- A set shifted past bit k is 0 just if it has no bit above k.
-use Rattle.lines.proofs.Reading.{proper_low, proper_none}
+use Rattle.std.proofs.Common.{◌≡◌, ◌+◌, ◌*◌, ◌%◌, ◌^◌, suc, ◌∙◌, ap, arith, tests, add-one, shl_exact}
+use Rattle.std.proofs.lemmas.Grind.{common_steps}
+use Rattle.rules.specs.Sets.{proper}
 use Rattle.lines.proofs.layout.proper.Goals as goal
 
-pub returns-then-s-ge1 : goal.returns-then-s-ge1
-returns-then-s-ge1 c = proper_low c.args.k c.args.s c.if-s-ge1.true
-
-pub returns-else-s-ge1 : goal.returns-else-s-ge1
-returns-else-s-ge1 c = proper_none c.args.k c.args.s c.if-s-ge1.false
+pub returns : goal.returns
+unfolding proper
+returns c =
+    let h = c.contains.ensures.value in
+    let e : 1 * 2 ^ (c.args.k + 1) % 4294967296 ≡ 2 ^ suc c.args.k = shl_exact {a = 1} 1 (c.args.k + 1) 32 (omega arith) (omega arith) ∙ omega (arith, ap (λ n. 2 ^ n) (add-one c.args.k)) in
+    grind (arith, common_steps, tests, h)

@@ -1,37 +1,25 @@
-use mathlib.Core.Path.{◌≡◌, ap, ◌∙◌}
-use Prim.Native.Nat.{◌-◌}
-use native.Mathlib.Omega.{arith}
-use borrow.Author.Tests.{not-true, not-false}
-use lib.ListN.{length, drop}
-use Rattle.rules.specs.Clues.{read_pairs}
-use Rattle.lines.specs.Layout.{line_read}
-use Rattle.lines.proofs.Reading.{pairs_over, pairs_short, pairs_again, pairs_fail}
+-- With fewer bytes the layout is broken; the pairs that are there are tested one by one.
+use Rattle.std.proofs.Common.{ap, ◌∙◌, ◌≡◌, ◌+◌, ◌*◌, ◌/◌, length, rules, arith, tests}
+use Rattle.std.specs.Bool.{then_some}
+use Rattle.std.specs.List.{list_all}
+use Rattle.std.specs.Simd.{first_chunks}
+use Rattle.std.proofs.lemmas.Iterator.{YieldsList-from_slice}
+use Rattle.std.proofs.lemmas.Iterator.Search.{all_from_yields_List}
+use Rattle.lines.proofs.Reading.{pair_allowed, pairs_missing, pairs_there}
 use Rattle.lines.proofs.layout.read_pairs.Goals as goal
 
-pub loop-i-init : goal.loop-i-init
-loop-i-init c =
+pub returns-in_err-get : goal.returns-in_err-get
+returns-in_err-get c =
     let a = c.args in
-    let z : a.n - 0 ≡ a.n = omega arith in
-    (omega arith, c.requires, ap (λ m. line_read (length a.bytes.now) (read_pairs a.k m (drop a.at a.bytes.now))) z)
-
-pub returns-then-bytes-end-lt2 : goal.returns-then-bytes-end-lt2
-returns-then-bytes-end-lt2 c =
-    let l = c.loop-i in
-    c.broken.ensures ∙ pairs_short c.args.k c.args.n c.args.bytes.now l.i l.end _ l.invariant.2 (omega arith) (omega arith)
-
-pub returns-then-not-allowed : goal.returns-then-not-allowed
-returns-then-not-allowed c =
-    let l = c.loop-i in
-    let v = c.allowed in
-    c.broken-then-not-allowed.ensures ∙ pairs_fail c.args.k c.args.n c.args.bytes.now l.i l.end _ l.invariant.2 (omega arith) v.result (omega arith) v.ensures (not-true _ c.if-not-allowed.true-raw)
-
-pub loop-i-preserved : goal.loop-i-preserved
-loop-i-preserved c =
-    let l = c.loop-i in
-    let v = c.allowed in
-    (omega arith, omega arith, pairs_again c.args.k c.args.n c.args.bytes.now l.i l.end _ l.invariant.2 (omega arith) v.result (omega arith) v.ensures (not-false _ c.if-not-allowed.false-raw))
+    let h = c.in_err-get.ensures.lookup.0 in
+    c.from_residual.ensures ∙ pairs_missing a.k a.n a.at a.bytes.now c.requires.0 (grind arith)
 
 pub returns : goal.returns
 returns c =
-    let l = c.loop-i in
-    pairs_over c.args.k c.args.n c.args.bytes.now l.i l.end _ l.invariant.2 (omega arith) l.invariant.1
+    let a = c.args in
+    let h = c.in_ok-get.ensures.lookup.0 in
+    let t = all_from_yields_List (pair_allowed a.k) _ _ c.all.result c.all.ensures.ran (YieldsList-from_slice c.as_chunks.result.0.now cc) (λ x b q k. search (rules, tests)) in
+    let w : length c.in_ok-get.field-0.now / 2 ≡ a.n = omega arith in
+    c.then_some.ensures
+    ∙ ap (λ b. then_some b (a.at + 2 * a.n)) (t ∙ ap (list_all (pair_allowed a.k)) (c.as_chunks.ensures.front ∙ ap (λ i. first_chunks 2 i c.in_ok-get.field-0.now) w))
+    ∙ pairs_there a.k a.n a.at a.bytes.now c.in_ok-get.field-0.now (omega arith) h.2

@@ -1,15 +1,7 @@
--- A line that was read right is all of the bytes just if it ends where they end.
-use Rattle.lines.proofs.Answering.{given_end, given_not}
+-- The bytes are one clue just if a line is read that ends where they end.
+use Rattle.std.proofs.Common.{rules, tests}
+use Rattle.lines.proofs.Answering.{whole_given}
 use Rattle.lines.proofs.single.clue_given.Goals as goal
 
-pub returns-then-read : goal.returns-then-read
-returns-then-read c =
-    let r = c.read_line-read in
-    let a = c.args in
-    given_end a.k a.clue.now r.result r.ensures c.if-read.true
-
-pub returns-else-read : goal.returns-else-read
-returns-else-read c =
-    let r = c.read_line-read in
-    let a = c.args in
-    given_not a.k a.clue.now r.result r.ensures c.if-read.false
+pub returns : goal.returns
+returns c = whole_given c.args.k c.args.clue.now _ _ c.read_line.ensures c.is_some_and.ensures (λ end q. search (rules, tests))
