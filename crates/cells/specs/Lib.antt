@@ -1,2 +1,3 @@
 -- What the contracts of this crate name beyond the rules.
 pub mod Sets
+pub mod Numbers

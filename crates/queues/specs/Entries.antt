@@ -1,48 +1,27 @@
--- What the queue's arrays stand for: the rules' queue, and the cell that goes first.
-use Rattle.std.specs.Prelude.{◌≡◌, Bool, true, false, List, map, ℕ, zero, suc, ◌≤◌, ◌<◌, get_or, Float}
-use Rattle.std.proofs.Math.Option.{Option, none, some}
+-- What the queue's arrays stand for: the rules' queue, and the cell that is taken out of it.
+use Rattle.std.specs.Prelude.{◌≡◌, map, ℕ, zero, suc, ◌≤◌, ◌<◌, get_or, Float, Option, None, Some, IfSome}
+use Rattle.std.proofs.Math.Option as Math
 use Rattle.std.specs.Float.{nan}
 use Rattle.rules.specs.Lists.{from}
 use Rattle.rules.specs.Boards.{Cell}
-use Rattle.rules.specs.Queues.{leader, pop}
+use Rattle.rules.specs.Queues.{pop}
 use Rattle.rules.specs.Floats.{higher}
 use Rattle.rules.specs.Probing.{CellQueue}
+use Rattle.cells.specs.declared.CellNo.{CellNo}
 use Rattle.queues.specs.declared.Queue.{Queue}
-use Rattle.queues.specs.declared.Best.{Best}
-use Rattle.queues.specs.declared.Popped.{Popped}
-
--- the queue of n cells with these bytes and priorities
-abbrev pub queue_at : ℕ → List ℕ → List Float → Queue
-queue_at n waits priority = record { n = n; waits = waits; priority = priority }
 
 -- a cell waits with its priority where its byte is not 0
-abbrev pub entry : ℕ → Float → Option Float
-entry zero p = none
-entry (suc w) p = some p
+abbrev pub entry : ℕ → Float → Math.Option Float
+entry zero p = Math.none
+entry (suc w) p = Math.some p
 
 -- what a cell waits with
-abbrev pub entry_at : Queue → Cell → Option Float
+abbrev pub entry_at : Queue → Cell → Math.Option Float
 entry_at q c = entry (get_or q.waits c 0) (get_or q.priority c nan)
 
 -- the rules' queue: an entry for each of the n cells
 unfoldable pub queue_of : Queue → CellQueue
 queue_of q = map (entry_at q) (from 0 q.n)
-
--- a number and what comes with it, if one was found
-abbrev pub found : {A : Type 0} → Bool → ℕ → A → Option (ℕ × A)
-found v c a = elim v [ true ↦ some (c, a) | false ↦ none ]
-
--- the cell found so far, and its priority
-abbrev pub best_of : Best → Option (Cell × Float)
-best_of b = found b.found b.cell.0 b.priority
-
--- b is the cell that goes first of all in q, if any waits
-abbrev pub Leads : Queue → Best → Type 0
-Leads q b = best_of b ≡ leader higher (queue_of q) (from 0 q.n) none
-
--- the cell popped, and the queue without it
-abbrev pub popped_of : Popped → Option (Cell × CellQueue)
-popped_of r = found r.found r.cell.0 (queue_of r.queue)
 
 -- q is the rules' queue e, for n cells
 pub record Holds (n : ℕ) (e : CellQueue) (q : Queue) : Type 0 where
@@ -50,9 +29,26 @@ pub record Holds (n : ℕ) (e : CellQueue) (q : Queue) : Type 0 where
   pub within : q.n ≤ 256
   pub queue : queue_of q ≡ e
 
--- r is what popping gives of q
-pub record PoppedFrom (q : Queue) (r : Popped) : Type 0 where
-  pub first : popped_of r ≡ pop higher (queue_of q)
-  pub below : r.found ≡ true → r.cell.0 < q.n
-  pub size : r.queue.n ≡ q.n
-  pub within : r.queue.n ≤ 256
+-- the cell taken out, if one waited, and the queue then
+abbrev pub taken_of : Option CellNo → Queue → Math.Option (Cell × CellQueue)
+taken_of None r = Math.none
+taken_of (Some c) r = Math.some (c.0, queue_of r)
+
+-- what taking out of q gives: a cell, if one waits, and the queue r then
+pub record TakenFrom (q : Queue) (o : Option CellNo) (r : Queue) : Type 0 where
+  pub first : taken_of o r ≡ pop higher (queue_of q)
+  pub below : IfSome o (λ c. c.0 < q.n)
+  pub size : r.n ≡ q.n
+  pub within : r.n ≤ 256
+
+-- the cell popped, and the queue without it
+abbrev pub popped_of : Option (CellNo × Queue) → Math.Option (Cell × CellQueue)
+popped_of None = Math.none
+popped_of (Some p) = Math.some (p.0.0, queue_of p.1)
+
+-- what popping gives of q
+pub record PoppedFrom (q : Queue) (o : Option (CellNo × Queue)) : Type 0 where
+  pub first : popped_of o ≡ pop higher (queue_of q)
+  pub below : IfSome o (λ p. p.0.0 < q.n)
+  pub size : IfSome o (λ p. p.1.n ≡ q.n)
+  pub within : IfSome o (λ p. p.1.n ≤ 256)
