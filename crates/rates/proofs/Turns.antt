@@ -10,13 +10,14 @@ pub record Turned (units left root rest i : ℕ) : Type 0 where
   pub below : left < 2 ^ 62
   pub least : rest ≤ 2 * root
   pub few : root < 2 ^ i
+  pub small : root < 2 ^ 58
   pub whole : (root * root + rest) * 2 ^ 62 + left ≡ units * 4 ^ i
 
 pub turned_none : (units : ℕ) → units < 2 ^ 62 → Turned units units 0 0 0
-turned_none units h = record { count = omega arith; below = h; least = omega arith; few = omega arith; whole = omega arith }
+turned_none units h = record { count = omega arith; below = h; least = omega arith; few = omega arith; small = omega arith; whole = omega arith }
 
-pub turned_few : {units left root rest i : ℕ} → Turned units left root rest i → root < 2 ^ 58
-turned_few t = omega (arith, pow_mono t.count, t.few)
+small_of : (root i : ℕ) → i ≤ 58 → root < 2 ^ i → root < 2 ^ 58
+small_of root i l f = omega (arith, pow_mono l)
 
 four_more : (units i : ℕ) → units * 4 ^ (i + 1) ≡ 4 * (units * 4 ^ i)
 four_more units i = ap (λ (n : ℕ). units * 4 ^ n) (add-one i) ∙ ap (λ (n : ℕ). units * n) (pow-suc 4 i ∙ mul_comm (4 ^ i) 4) ∙ mul_left_comm units 4 (4 ^ i)
@@ -35,7 +36,8 @@ module _ (units left root rest i : ℕ) (t : Turned units left root rest i) (l :
       let s = square_odd root in
       let p = four_more units i in
       let q = two_more i in
-      record { count = omega arith; below = omega arith; least = omega arith; few = omega arith; whole = omega arith }
+      let few : root * 2 + 1 < 2 ^ (i + 1) = omega arith in
+      record { count = omega arith; below = omega arith; least = omega arith; few = few; small = small_of (root * 2 + 1) (i + 1) (omega arith) few; whole = omega arith }
 
   -- or 0
   pub turned_zero : rest * 4 + left / 2 ^ 60 < root * 4 + 1 → Turned units (left % 2 ^ 60 * 4) (root * 2) (rest * 4 + left / 2 ^ 60) (i + 1)
@@ -47,7 +49,8 @@ module _ (units left root rest i : ℕ) (t : Turned units left root rest i) (l :
       let s = square_twice root in
       let p = four_more units i in
       let q = two_more i in
-      record { count = omega arith; below = omega arith; least = omega arith; few = omega arith; whole = omega arith }
+      let few : root * 2 < 2 ^ (i + 1) = omega arith in
+      record { count = omega arith; below = omega arith; least = omega arith; few = few; small = small_of (root * 2) (i + 1) (omega arith) few; whole = omega arith }
 
 below_top : (units : ℕ) → units < 2 ^ 62 → units * 2 ^ 54 < 4 ^ 58
 below_top units h = omega arith
@@ -63,4 +66,4 @@ turned_all units left root rest i h t l =
     let w : (root * root + rest) * 2 ^ 62 + left ≡ units * 4 ^ 58 = subst (λ (n : ℕ). (root * root + rest) * 2 ^ 62 + left ≡ units * 4 ^ n) all t.whole in
     let n = units * 2 ^ 54 in
     let e : root * root + rest ≡ n = omega arith in
-    record { is_root = root_one n root (whole_root 58 n) (is_root n root rest e t.least) (whole_root_lem 58 n (below_top units h)); is_rest = omega arith; few = turned_few t }
+    record { is_root = root_one n root (whole_root 58 n) (is_root n root rest e t.least) (whole_root_lem 58 n (below_top units h)); is_rest = omega arith; few = t.small }

@@ -5,48 +5,36 @@ mod roots;
 
 ghost use Rattle.std.specs.Prelude.{◌≡◌, ◌≤◌};
 ghost use Rattle.rules.specs.Floats as Floats;
-ghost use Rattle.rates.specs.Answered.{Answered};
+ghost use Rattle.rates.specs.Answered.{rate_answer, Answered};
 
 use roots::root;
+use rules::Refusal;
 
 // The largest count of newly solved cells.
 const LARGEST_COUNT: u64 = 255;
 
-// The number of a rate that is refused.
-const RATE_REFUSED: u8 = 19;
-
-// The number given back, and the rate.
-#[derive(Clone, Copy)]
-pub struct Rated {
-    pub number: u8,
-    pub rate: f64,
-}
-
-// The rate of a cell whose colours newly solve max cells at most and min at least: number 0 and the rate, or 19 and 0.0 where max > 255 or min > max.
-pub fn rate(max: u64, min: u64) -> Rated
-    ensures { Answered max min result.number result.rate }
+// The rate of a cell whose colours newly solve max cells at most and min at least; refused where max > 255 or min > max.
+pub fn rate(max: u64, min: u64) -> Result<f64, Refusal>
+    ensures { let answer = rate_answer result in Answered max min answer.number answer.rate }
 {
     if max <= LARGEST_COUNT && min <= max {
-        return Rated {
-            number: 0,
-            rate: rate_of(max as u8, min as u8),
-        };
-    }
-    Rated {
-        number: RATE_REFUSED,
-        rate: 0.0,
+        Ok(rate_of(max as u8, min as u8))
+    } else {
+        Err(Refusal::Rate)
     }
 }
 
 // The rate of legal counts, which the search has: sqrt(max/(min+1)) + min.
+#[tactic(auto, unfolding(rules::specs::Floats::rate))]
 pub fn rate_of(max: u8, min: u8) -> f64
     requires { min ≤ max }
     ensures { result ≡ Floats.rate max min }
 {
-    root(max, min) + (min as f64)
+    root(max, min) + min as f64
 }
 
 // (4 minus unsolved neighbours, plus row rate) plus column rate; a rate is solved cells divided by the line's length.
+#[tactic(auto, unfolding(rules::specs::Floats::priority_of))]
 pub fn priority(
     unsolved: u8,
     row_solved: u8,

@@ -11,7 +11,7 @@ const UNITS: f64 = 18014398509481984.0;
 const HALF_UNITS: f64 = 36028797018963968.0;
 
 // 2^60: the top two of 62 binary digits stand above it.
-const TOP: u64 = 1152921504606846976;
+const TOP: u64 = 1 << 60;
 
 // The f64 nearest the root of max/(min+1). Quotients of 0 and 1 are their own roots. Of all others the root's digits are worked out in whole numbers, and doubled, with 1 more where anything is left,
 // so that the one rounding goes to the nearest; the multiplication before it and the division after it are exact.
@@ -46,29 +46,22 @@ fn digits(units: u64) -> WholeRoot
     let mut left = units;
     let mut root = 0u64;
     let mut rest = 0u64;
-    let mut i = 0u64;
-    while i < 58 {
+    for _turn in 0..58u8 {
         let more = rest * 4 + left / TOP;
         let odd = root * 4 + 1;
         left = left % TOP * 4;
-        root = root * 2;
-        if odd <= more {
-            rest = more - odd;
-            root = root + 1;
+        (root, rest) = if odd <= more {
+            (root * 2 + 1, more - odd)
         } else {
-            rest = more;
-        }
-        i += 1;
+            (root * 2, more)
+        };
     }
-    WholeRoot {
-        root: root,
-        rest: rest,
-    }
+    WholeRoot { root, rest }
 }
 
 // 1 where anything is left.
 fn sticky(rest: u64) -> u64
     ensures { result ≡ Floats.sticky rest }
 {
-    if rest == 0 { 0 } else { 1 }
+    u64::from(rest != 0)
 }

@@ -6,20 +6,14 @@ use Rattle.rules.specs.Floats.{float, quotient, root}
 use Rattle.rules.specs.Roots.{Nearest}
 use Rattle.rules.proofs.Roots.{sticky_le}
 use Rattle.rules.proofs.Rates.{quotient_nearest}
-use Rattle.rates.proofs.Scaled.{power, units_of, units_few, units_whole, root_found}
+use Rattle.rates.proofs.Scaled.{power, units_few, units_whole, root_found}
 use Rattle.rates.proofs.Short.{short_root}
 use Rattle.rates.proofs.roots.root.Goals as goal
-use Rattle.rates.proofs.roots.root.Goals.{then-quotient-via-then-quotient, then-quotient-via-else-quotient+then-quotient-2, After-truncating_f64_to_u64-units, Start}
-
-few : (c : Start) → c.args.max ≤ 255
-few c = omega arith
+use Rattle.rates.proofs.roots.root.Goals.{then-quotient-via-then-quotient, then-quotient-via-else-quotient+then-quotient-2}
 
 -- the definition's root is also the nearest
-both : (c : Start) {r : Float} → let q = quotient c.args.max c.args.min in r ≡ root q → (r ≡ root q) × Nearest q r
-both c is =
-    let max = c.args.max in
-    let min = c.args.min in
-    (is, subst (Nearest (quotient max min)) (sym is) (quotient_nearest max min (few c) c.requires))
+both : (max min : ℕ) {r : Float} → max ≤ 255 → min ≤ max → r ≡ root (quotient max min) → (r ≡ root (quotient max min)) × Nearest (quotient max min) r
+both max min few in_order is = (is, subst (Nearest (quotient max min)) (sym is) (quotient_nearest max min few in_order))
 
 pub int_to_float-quotient-2 : goal.int_to_float-quotient-2
 unfolding in_float
@@ -28,7 +22,8 @@ int_to_float-quotient-2 c = le→leb (c.args.min + 1) (2 ^ 53) (omega arith)
 pub returns-then-quotient : goal.returns-then-quotient
 unfolding of_bits of_int
 returns-then-quotient c =
-    let b = both (goal.at.returns-then-quotient c).Start (short_root c.args.max c.args.min (few (goal.at.returns-then-quotient c).Start) c.requires (elim c.then-quotient.branch [
+    let few : c.args.max ≤ 255 = omega arith in
+    let b = both c.args.max c.args.min few c.requires (short_root c.args.max c.args.min few c.requires (elim c.then-quotient.branch [
       | then-quotient-via-then-quotient w ↦ inl w.if-quotient.true
       | then-quotient-via-else-quotient+then-quotient-2 w ↦ inr w.if-quotient-2.true
     ])) in
@@ -37,18 +32,14 @@ returns-then-quotient c =
 pub truncating_f64_to_u64-units-requires : goal.truncating_f64_to_u64-units-requires
 unfolding of_bits
 truncating_f64_to_u64-units-requires c =
-    let whole = units_whole c.args.max c.args.min (few (goal.at.truncating_f64_to_u64-units-requires c).Start) c.requires in
+    let whole = units_whole c.args.max c.args.min (omega arith) c.requires in
     record { lower_bound = whole.above; upper_bound = whole.below }
 
--- the units that are asked for are the quotient's
-counted : (c : After-truncating_f64_to_u64-units) → c.truncating_f64_to_u64-units.result ≡ units_of c.before.before.before.before.before.before.args.max c.before.before.before.before.before.before.args.min (few c.before.before.before.before.before.before) c.before.before.before.before.before.before.requires
-unfolding of_bits
-counted c =
-    c.truncating_f64_to_u64-units.ensures ∙ (units_whole c.before.before.before.before.before.before.args.max c.before.before.before.before.before.before.args.min (few c.before.before.before.before.before.before) c.before.before.before.before.before.before.requires).is
-
 pub digits-found-requires : goal.digits-found-requires
+unfolding of_bits
 digits-found-requires c =
-    omega (arith, counted (goal.at.digits-found-requires c).After-truncating_f64_to_u64-units, units_few c.args.max c.args.min (few (goal.at.digits-found-requires c).Start) c.requires)
+    let few : c.args.max ≤ 255 = omega arith in
+    omega (arith, c.truncating_f64_to_u64-units.ensures ∙ (units_whole c.args.max c.args.min few c.requires).is, units_few c.args.max c.args.min few c.requires)
 
 pub overflow_add-doubled : goal.overflow_add-doubled
 overflow_add-doubled c = omega (arith, sticky_le c.digits-found.result.rest)
@@ -56,8 +47,10 @@ overflow_add-doubled c = omega (arith, sticky_le c.digits-found.result.rest)
 pub returns : goal.returns
 unfolding of_bits
 returns c =
+    let few : c.args.max ≤ 255 = omega arith in
+    let units = c.truncating_f64_to_u64-units.ensures ∙ (units_whole c.args.max c.args.min few c.requires).is in
     let doubled = ap (λ (s : ℕ). float (c.digits-found.result.root * 2 + s)) c.sticky.ensures in
-    let b = both (goal.at.returns c).Start
+    let b = both c.args.max c.args.min few c.requires
     (ap (λ (x : Float). div binary64 x (power 55)) (c.nearest_u64_to_f64.ensures ∙ doubled)
-    ∙ root_found c.args.max c.args.min (few (goal.at.returns c).Start) c.requires _ _ _ (counted (goal.at.returns c).After-truncating_f64_to_u64-units) c.digits-found.ensures) in
+    ∙ root_found c.args.max c.args.min few c.requires _ _ _ units c.digits-found.ensures) in
     record { value = b.0; nearest = b.1 }
