@@ -4,7 +4,6 @@ pub mod Places
 pub mod Counting
 pub mod Differing
 pub mod Parts
-pub mod Machines
 pub mod Pending
 pub mod Crossing
 pub mod Waking

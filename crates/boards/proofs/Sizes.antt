@@ -1,4 +1,4 @@
--- How large things are: a board's array has 256 cells, and those on the board are no more; a machine has eight masks; a table is as large as its puzzle.
+-- How large things are: a board's array has 256 cells, and those on the board are no more; a table is as large as its puzzle.
 use mathlib.Core.Path.{◌≡◌, subst}
 use mathlib.Core.List.{List}
 use Prim.Native.Nat.{ℕ, ◌*◌, ◌≤◌}
@@ -12,9 +12,8 @@ use denote.Laws.{Is}
 use denote.Struct.Declared.{row}
 use Rattle.rules.specs.Boards.{Puzzle}
 use Rattle.lines.specs.declared.machine.Machine.{Machine}
-use Rattle.lines.specs.contracts.machine.Machine as machine
 use Rattle.boards.specs.declared.board.Board.{Board}
-use Rattle.boards.specs.Board.{board_of, Sized}
+use Rattle.boards.specs.Board.{board_of, Sized, SameSize}
 use Rattle.boards.specs.Table.{Table}
 use Rattle.boards.specs.contracts.board.Board as board
 
@@ -28,10 +27,10 @@ few_cells b s = mul-le-mul s.narrow s.low
 pub board_length : (b : Board) → Sized b → length b.cells ≡ 256 → length (board_of b) ≡ b.w * b.h
 board_length b s e = length-take-le (b.w * b.h) b.cells (omega (arith, few_cells b s))
 
--- and a machine eight masks
-pub machine_masks : (m : Machine) (vs : List Val) → Is (row machine.the_type) m vs → length m.by ≡ 8
-machine_masks m vs p = search rules
-
 -- a fact at a puzzle's size is one at its table's
-pub at_size : {z : Puzzle} {w h : ℕ} {masks : List ℕ} → Table z w h masks → (P : ℕ → ℕ → Type 0) → P z.width z.height → P w h
+pub at_size : {z : Puzzle} {w h : ℕ} {machines : List Machine} → Table z w h machines → (P : ℕ → ℕ → Type 0) → P z.width z.height → P w h
 at_size {z} {w} {h} t P p = subst (λ w. P w h) t.wide (subst (P z.width) t.high p)
+
+-- and one at a board's size is one at the size of any board as large
+pub same_size : {a b : Board} → SameSize a b → (P : ℕ → ℕ → Type 0) → P b.w b.h → P a.w a.h
+same_size {a} {b} s P p = subst (λ w. P w a.h) s.wide (subst (P b.w) s.high p)

@@ -4,9 +4,6 @@
 mod board;
 mod line;
 mod propagation;
-mod table;
 
 pub use board::{Board, newly_solved};
-pub use line::{Line, line_of};
-pub use propagation::Propagated;
-pub use table::{MACHINE, machine_at, store_machine};
+pub use line::{LINES, Line, line_of};

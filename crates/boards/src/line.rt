@@ -3,6 +3,11 @@ ghost use Rattle.std.specs.Prelude.{◌≡◌, map, ◌+◌, ◌≤◌, ◌<◌,
 ghost use Rattle.rules.specs.Propagation.{write};
 ghost use Rattle.boards.specs.Line.{line_at, places, Reaches, differ_bits, differ_digit};
 
+use rules::LARGEST_SIDE;
+
+// A board has at most this many rows and columns together.
+pub const LINES: usize = 2 * LARGEST_SIDE;
+
 // The first cell, how far apart the cells are, and how many there are.
 #[derive(Clone, Copy)]
 pub struct Line {
