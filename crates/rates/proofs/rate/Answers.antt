@@ -1,5 +1,5 @@
 -- Counts that pass both tests have their rate (`accepted`); where either fails, the rate is refused (`refused`).
-use Rattle.std.proofs.Common.{inl, inr}
+use Rattle.std.proofs.Common.{inl, inr, arith}
 use Rattle.rates.proofs.Answers.{accepted, refused}
 use Rattle.rates.proofs.rate.Goals as goal
 
