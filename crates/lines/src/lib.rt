@@ -9,4 +9,4 @@ mod single;
 pub use layout::{all_proper, read_line, within};
 pub use machine::{Machine, closed, machine_of};
 pub use reduction::reduce_by;
-pub use single::reduce_line;
+pub use single::{Reduction, line_number, reduce_line};
