@@ -18,8 +18,8 @@ pub struct Question {
 }
 
 // The five numbers of an answer.
-#[derive(Clone, Copy)]
-pub struct Expected {
+#[derive(Clone, Copy, PartialEq, Eq)]
+pub struct Numbers {
     pub number: u64,
     pub grids: u64,
     pub steps: u64,
@@ -27,56 +27,34 @@ pub struct Expected {
     pub limit: u64,
 }
 
-// Whether an answer has the five numbers that are expected.
-fn is_answer(a: Answer, e: Expected) -> bool {
-    if a.number as u64 != e.number {
-        return false;
+impl From<Answer> for Numbers {
+    fn from(a: Answer) -> Self {
+        Numbers {
+            number: u64::from(a.number),
+            grids: a.grids as u64,
+            steps: a.steps,
+            deepest: a.deepest as u64,
+            limit: u64::from(a.limit),
+        }
     }
-    if a.grids as u64 != e.grids {
-        return false;
-    }
-    if a.steps != e.steps {
-        return false;
-    }
-    if a.deepest as u64 != e.deepest {
-        return false;
-    }
-    a.limit as u64 == e.limit
 }
 
-// The byte that is expected at a place of a list which begins with the stored grids: after them it is untouched.
-fn listed(grids: &[u8], i: usize) -> u8 {
-    if i < grids.len() {
-        return grids[i];
-    }
-    UNTOUCHED
+// What is expected of a search: the numbers of its answer, the board and the stored grids.
+#[derive(Clone, Copy)]
+pub struct Expected<'a> {
+    pub answer: Numbers,
+    pub board: &'a [u8],
+    pub grids: &'a [u8],
 }
 
 // Whether a list is the stored grids, and untouched after them.
 fn is_list(list: &[u8], grids: &[u8]) -> bool {
-    if list.len() < grids.len() {
-        return false;
-    }
-    let mut i: usize = 0;
-    while i < list.len() {
-        if list[i] != listed(grids, i) {
-            return false;
-        }
-        i += 1;
-    }
-    true
+    list.strip_prefix(grids)
+        .is_some_and(|rest| rest.iter().all(|b| *b == UNTOUCHED))
 }
 
 // Whether a search gives the answer that is expected, and leaves this board and these grids.
-pub fn agrees(
-    q: Question,
-    clues: &[u8],
-    cells: &mut [u8],
-    list: &mut [u8],
-    e: Expected,
-    board: &[u8],
-    grids: &[u8],
-) -> bool {
+pub fn agrees(q: Question, clues: &[u8], cells: &mut [u8], list: &mut [u8], e: Expected) -> bool {
     let a = belutharin::solve(
         q.w,
         q.h,
@@ -88,11 +66,5 @@ pub fn agrees(
         q.most_depth,
         q.budget,
     );
-    if !is_answer(a, e) {
-        return false;
-    }
-    if !vectors::same(cells, board) {
-        return false;
-    }
-    is_list(list, grids)
+    Numbers::from(a) == e.answer && &*cells == e.board && is_list(list, e.grids)
 }

@@ -1,9 +1,0 @@
--- The measure is what is left of the text.
-use Rattle.std.proofs.Common.{◌-◌, ◌≤◌, length}
-use Rattle.vectors.proofs.next_number.Given as goal
-
-abbrev pub invariant-loop-i : goal.invariant-loop-i
-invariant-loop-i l = 0 ≤ l.i
-
-abbrev pub decreases-loop-i : goal.decreases-loop-i
-decreases-loop-i l = length l.text - l.i
