@@ -3,4 +3,4 @@
 
 mod handing;
 
-pub use handing::{Handed, grid, number, part};
+pub use handing::{Handed, Place, grid, number, part, place_of};
