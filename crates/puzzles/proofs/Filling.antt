@@ -1,22 +1,23 @@
--- A table filled line by line, as the clues are read: what one line comes to, the lines so far, and the exits.
+-- A table filled line by line, as the clues are read: the lines so far, and the exits.
 use mathlib.Core.Path.{◌≡◌, refl, ap, sym, subst, ◌∙◌}
-use mathlib.Core.Bool.{true, false}
+use mathlib.Core.Bool.{true}
 use mathlib.Core.List.{List, [], ◌∷◌, ◌++◌, append_assoc}
 use Prim.Native.Nat.{ℕ, suc, ◌+◌, ◌-◌, ◌≤◌, ◌<◌}
 use native.Mathlib.Omega.{arith}
 use lib.Dec.{eqb}
-use lib.ListN.{length, get_or, take, drop, length-append, length-drop, get_or-append}
-use lib.Seq.{get_or_at}
 use borrow.Author.Tests.{eq-eqb, ne_eqb}
+use Rattle.std.specs.Bool.{then_some}
+use lib.ListN.{length, get_or, set, take, drop, length-append, length-drop, length-set, get_or-append}
+use lib.Seq.{get_or_at, get_or-set_same, get_or-set_other}
+use Rattle.std.specs.Prelude.{None}
 use Rattle.rules.specs.Clues.{Clue, regular, Read, read, broken, ahead, whole, read_line, read_lines, clues_of}
-use Rattle.rules.proofs.Tests.{by_equal, clash}
-use Rattle.lines.specs.declared.layout.LineRead.{LineRead}
+use Rattle.rules.proofs.Tests.{by_equal}
 use Rattle.lines.specs.declared.machine.Machine.{Machine}
 use Rattle.lines.specs.Layout.{line_read}
 use Rattle.lines.specs.Machines.{clue_in, Legal, machine_of}
-use Rattle.lines.proofs.Reading.{RightLine, line_right, pairs_legal, pairs_clue}
-use Rattle.boards.specs.Table.{machine_at, Stored}
-use Rattle.puzzles.specs.Table.{ReadsLine, TableTo, Reads}
+use Rattle.lines.proofs.Reading.{RightLine, pairs_legal, pairs_clue}
+use Rattle.boards.specs.Table.{machine_at}
+use Rattle.puzzles.specs.Table.{Reads}
 
 -- ## One line
 
@@ -24,33 +25,9 @@ use Rattle.puzzles.specs.Table.{ReadsLine, TableTo, Reads}
 abbrev pairs_at : List ℕ → ℕ → ℕ → List ℕ
 pairs_at bytes at end = take (end - (at + 1)) (drop (at + 1) bytes)
 
-module _ (k : ℕ) (bytes : List ℕ) (at i : ℕ) (r : LineRead) (is : r ≡ line_read (length bytes) (read_line k (drop at bytes))) where
-  pub line_broken : (masks : List ℕ) → r.ok ≡ false → ReadsLine k bytes at i masks masks r
-  line_broken masks no_line = record {
-    is = is;
-    long = refl;
-    to = λ clue rest e. clash (ap (λ x. x.ok) (is ∙ ap (line_read (length bytes)) e)) no_line;
-  }
-
-  module _ (ok : r.ok ≡ true) where
-    pub line_after : at < r.end
-    line_after = (line_right k bytes at r is ok).after
-
-    pub line_inside : r.end ≤ length bytes
-    line_inside = (line_right k bytes at r is ok).inside
-
-    pub line_legal : k ≤ 7 → Legal (pairs_at bytes at r.end)
-    line_legal h = let l = line_right k bytes at r is ok in pairs_legal k l.clue (pairs_at bytes at r.end) (omega arith) l.right l.pairs
-
-    pub line_stored : (before masks : List ℕ) (m : Machine) → m ≡ machine_of (clue_in (pairs_at bytes at r.end)) → Stored before masks i m → ReadsLine k bytes at i before masks r
-    line_stored before masks m e s = record {
-      is = is;
-      long = s.long;
-      to = λ clue rest q.
-          let l = line_right k bytes at r is ok in
-          let c : l.clue ≡ clue = cc (sym l.is ∙ q) in
-          subst (Stored before masks i) (e ∙ ap machine_of (pairs_clue l.clue (pairs_at bytes at r.end) l.pairs ∙ c)) s;
-    }
+-- a line that was read has a clue that a machine is made of
+pub line_legal : (k : ℕ) (bytes : List ℕ) (at end : ℕ) → k ≤ 7 → RightLine k bytes at end → Legal (pairs_at bytes at end)
+line_legal k bytes at end h l = pairs_legal k l.clue (pairs_at bytes at end) (omega arith) l.right l.pairs
 
 -- ## The lines so far
 
@@ -72,18 +49,17 @@ abbrev onward : ℕ → ℕ → Read Clue → Read (List Clue)
 onward k m line = elim line [ broken ↦ broken | read clue rest ↦ ahead clue (read_lines k m rest) ]
 
 -- the clues of the i lines before byte `at` are read, and their machines are in the table
-pub record Filled (k n : ℕ) (bytes masks : List ℕ) (at i : ℕ) : Type 0 where
+pub record Filled (k n : ℕ) (bytes : List ℕ) (machines : List Machine) (at i : ℕ) : Type 0 where
   pub clues : List Clue
   pub count : length clues ≡ i
-  pub each : (j : ℕ) → j < i → machine_at masks j ≡ machine_of (get_or clues j [])
+  pub each : (j : ℕ) → j < i → machine_at machines j ≡ machine_of (get_or clues j [])
   pub plain : (j : ℕ) → j < i → regular 7 (get_or clues j []) ≡ true
   pub so_far : read_lines k n bytes ≡ behind clues (read_lines k (n - i) (drop at bytes))
-  pub upto : i ≤ n
   pub inside : at ≤ length bytes
-  pub room : length masks ≡ 320
+  pub room : length machines ≡ 32
 
-pub filled_start : (k n : ℕ) (bytes masks : List ℕ) → length masks ≡ 320 → Filled k n bytes masks 0 0
-filled_start k n bytes masks e =
+pub filled_start : (k n : ℕ) (bytes : List ℕ) (machines : List Machine) → length machines ≡ 32 → Filled k n bytes machines 0 0
+filled_start k n bytes machines long =
     let z : n ≡ n - 0 = omega arith in
     record {
       clues = [];
@@ -91,38 +67,34 @@ filled_start k n bytes masks e =
       each = λ j h. absurd (omega arith);
       plain = λ j h. absurd (omega arith);
       so_far = ap (λ m. read_lines k m bytes) z ∙ behind_none (read_lines k (n - 0) bytes);
-      upto = omega arith;
       inside = omega arith;
-      room = e;
+      room = long;
     }
 
-module _ (k n : ℕ) (bytes masks : List ℕ) (at i : ℕ) (f : Filled k n bytes masks at i) where
+module _ (k n : ℕ) (bytes : List ℕ) (machines : List Machine) (at i : ℕ) (f : Filled k n bytes machines at i) where
   -- at least one line is left
   lines_next : i < n → read_lines k (n - i) (drop at bytes) ≡ onward k (n - (i + 1)) (read_line k (drop at bytes))
   unfolding read_lines
   lines_next h = let z : n - i ≡ suc (n - (i + 1)) = omega arith in ap (λ m. read_lines k m (drop at bytes)) z
 
-  pub filled_turn : (after : List ℕ) (r : LineRead) → k ≤ 7 → i < n → ReadsLine k bytes at i masks after r → r.ok ≡ true → Filled k n bytes after r.end (i + 1)
-  filled_turn after r few h l ok = record {
+  pub filled_turn : (end : ℕ) (m : Machine) → k ≤ 7 → i < n → n ≤ 32 → (line : RightLine k bytes at end) → m ≡ machine_of (clue_in (pairs_at bytes at end)) →
+      Filled k n bytes (set machines i m) end (i + 1)
+  filled_turn end m few h wide line made = record {
     clues = f.clues ++ (line.clue ∷ []);
     count = length-append f.clues (line.clue ∷ []) ∙ ap (λ m. m + 1) f.count;
     each = λ j q. by_equal j i
-        (λ e. ap (machine_at after) e ∙ stored.there ∙ ap machine_of (sym (ap (λ m. get_or (f.clues ++ (line.clue ∷ [])) m []) e ∙ last)))
-        (λ e. stored.others j e ∙ f.each j (omega arith) ∙ ap machine_of (sym (earlier j (omega arith))));
+        (λ e. ap (machine_at (set machines i m)) e ∙ get_or-set_same machines i m _ (let z = f.room in omega arith) ∙ made ∙ ap machine_of (clue_is ∙ sym (ap (λ m. get_or (f.clues ++ (line.clue ∷ [])) m []) e ∙ last)))
+        (λ e. get_or-set_other machines i j m _ e ∙ f.each j (omega arith) ∙ ap machine_of (sym (earlier j (omega arith))));
     plain = λ j q. by_equal j i
-        (λ e. ap (regular 7) (ap (λ m. get_or (f.clues ++ (line.clue ∷ [])) m []) e ∙ last) ∙ plain_last)
+        (λ e. ap (regular 7) (ap (λ m. get_or (f.clues ++ (line.clue ∷ [])) m []) e ∙ last ∙ sym clue_is) ∙ line_legal k bytes at end few line)
         (λ e. ap (regular 7) (earlier j (omega arith)) ∙ f.plain j (omega arith));
-    so_far = f.so_far ∙ ap (behind f.clues) (lines_next h ∙ ap (onward k (n - (i + 1))) line.is) ∙ behind_next f.clues line.clue (read_lines k (n - (i + 1)) (drop r.end bytes));
-    upto = omega arith;
+    so_far = f.so_far ∙ ap (behind f.clues) (lines_next h ∙ ap (onward k (n - (i + 1))) line.is) ∙ behind_next f.clues line.clue (read_lines k (n - (i + 1)) (drop end bytes));
     inside = line.inside;
-    room = l.long ∙ f.room;
+    room = length-set machines i m ∙ f.room;
   }
     where
-      line : RightLine k bytes at r.end
-      line = line_right k bytes at r l.is ok
-
-      stored : Stored masks after i (machine_of line.clue)
-      stored = l.to line.clue (drop r.end bytes) line.is
+      clue_is : clue_in (pairs_at bytes at end) ≡ line.clue
+      clue_is = pairs_clue line.clue (pairs_at bytes at end) line.pairs
 
       last : get_or (f.clues ++ (line.clue ∷ [])) i [] ≡ line.clue
       last = get_or_at f.clues line.clue [] [] i f.count
@@ -130,35 +102,28 @@ module _ (k n : ℕ) (bytes masks : List ℕ) (at i : ℕ) (f : Filled k n bytes
       earlier : (j : ℕ) → j < i → get_or (f.clues ++ (line.clue ∷ [])) j [] ≡ get_or f.clues j []
       earlier j q = get_or-append f.clues (line.clue ∷ []) [] j (let z = f.count in omega arith)
 
-      plain_last : regular 7 line.clue ≡ true
-      plain_last = ap (regular 7) (sym (pairs_clue line.clue (pairs_at bytes at r.end) line.pairs)) ∙ line_legal k bytes at i r l.is ok few
-
   -- a line breaks the layout
-  pub filled_fails : (w h : ℕ) (after : List ℕ) (r : LineRead) → h + w ≡ n → i < n → ReadsLine k bytes at i masks after r → r.ok ≡ false → Reads k w h bytes after false
+  pub filled_fails : (w h : ℕ) → h + w ≡ n → i < n → None ≡ line_read (length bytes) (read_line k (drop at bytes)) → Reads k w h bytes None
   unfolding clues_of
-  filled_fails w h after r e q l no_line = record {
-    room = l.long ∙ f.room;
-    to = subst (TableTo w h after false) (sym (ap (λ x. whole x) (ap (λ m. read_lines k m bytes) e ∙ f.so_far ∙ ap (behind f.clues) (lines_next q ∙ go (read_line k (drop at bytes)) l.is)))) refl;
-  }
+  filled_fails w h e q l = ap (λ x. whole x) (ap (λ m. read_lines k m bytes) e ∙ f.so_far ∙ ap (behind f.clues) (lines_next q ∙ go (read_line k (drop at bytes)) l))
     where
-      go : (x : Read Clue) → r ≡ line_read (length bytes) x → onward k (n - (i + 1)) x ≡ broken
+      go : (x : Read Clue) → None ≡ line_read (length bytes) x → onward k (n - (i + 1)) x ≡ broken
       go broken p = refl
-      go (read clue rest) p = clash (ap (λ y. y.ok) p) no_line
+      go (read clue rest) p = absurd (cc)
+
+  all_read : (w h : ℕ) → h + w ≡ n → n ≤ i → read_lines k (h + w) bytes ≡ read (f.clues ++ []) (drop at bytes)
+  unfolding read_lines
+  all_read w h e q = let z : n - i ≡ 0 = omega arith in ap (λ m. read_lines k m bytes) e ∙ f.so_far ∙ ap (λ m. behind f.clues (read_lines k m (drop at bytes))) z
 
   -- all lines are read: whether bytes follow decides
-  pub filled_end : (w h : ℕ) → h + w ≡ n → n ≤ i → Reads k w h bytes masks (eqb at (length bytes))
-  unfolding clues_of read_lines
-  filled_end w h e q = record {
-    room = f.room;
-    to = subst (TableTo w h masks (eqb at (length bytes))) (sym (ap (λ x. whole x) all)) (go (drop at bytes) refl);
-  }
+  pub filled_end : (w h : ℕ) → h + w ≡ n → n ≤ i → Reads k w h bytes (then_some (eqb at (length bytes)) machines)
+  unfolding clues_of
+  filled_end w h e q = go (drop at bytes) refl
     where
-      all : read_lines k (h + w) bytes ≡ read (f.clues ++ []) (drop at bytes)
-      all = let z : n - i ≡ 0 = omega arith in ap (λ m. read_lines k m bytes) e ∙ f.so_far ∙ ap (λ m. behind f.clues (read_lines k m (drop at bytes))) z
-
-      go : (left : List ℕ) → drop at bytes ≡ left → TableTo w h masks (eqb at (length bytes)) (whole (read (f.clues ++ []) left))
-      go [] p = (
-        eq-eqb at (length bytes) (let z = ap length p in let y = length-drop at bytes in let x = f.inside in omega arith),
+      go : (left : List ℕ) → drop at bytes ≡ left → Reads k w h bytes (then_some (eqb at (length bytes)) machines)
+      go [] p = subst (λ t. Reads k w h bytes (then_some t machines)) (sym (eq-eqb at (length bytes) (let z = ap length p in let y = length-drop at bytes in let x = f.inside in omega arith))) (
+        f.clues ++ [],
+        ap (λ x. whole x) (all_read w h e q ∙ ap (read (f.clues ++ [])) p),
         record {
           wide = refl;
           high = refl;
@@ -169,4 +134,5 @@ module _ (k n : ℕ) (bytes masks : List ℕ) (at i : ℕ) (f : Filled k n bytes
         where
           clue : (j : ℕ) → j < i → get_or (f.clues ++ []) j [] ≡ get_or f.clues j []
           clue j l = get_or-append f.clues [] [] j (let z = f.count in omega arith)
-      go (x ∷ left) p = ne_eqb at (length bytes) (λ q. let z = ap length p in let y = length-drop at bytes in omega arith)
+      go (x ∷ left) p = subst (λ t. Reads k w h bytes (then_some t machines)) (sym (ne_eqb at (length bytes) (λ q. let z = ap length p in let y = length-drop at bytes in omega arith)))
+          (ap (λ x. whole x) (all_read w h e q ∙ ap (read (f.clues ++ [])) p))

@@ -1,3 +1,2 @@
 -- What the proofs of this crate share.
 pub mod Filling
-pub mod Copying

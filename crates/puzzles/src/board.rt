@@ -19,17 +19,9 @@ pub fn board_of(w: usize, h: usize, cells: &[u8]) -> Board
     requires { (1 ≤ w) × (w ≤ 16) × (1 ≤ h) × (h ≤ 16) × (length cells.now ≡ w * h) }
     ensures { (result.w ≡ w) × (result.h ≡ h) × (board_of result ≡ cells.now) }
 {
-    let mut sets = [0u8; 256];
-    let mut i: usize = 0;
-    while i < cells.len() {
-        sets[i] = cells[i];
-        i += 1;
-    }
-    Board {
-        w: w,
-        h: h,
-        cells: sets,
-    }
+    let mut sets = [0; 256];
+    sets[..cells.len()].copy_from_slice(cells);
+    Board { w, h, cells: sets }
 }
 
 // The caller's cells get the board's sets.
@@ -37,10 +29,5 @@ pub fn give_back(b: Board, cells: &mut [u8])
     requires { Sized b × (length cells.old ≡ b.w * b.h) }
     ensures { cells.new ≡ board_of b }
 {
-    let sets = b.cells;
-    let mut c: usize = 0;
-    while c < cells.len() {
-        cells[c] = sets[c];
-        c += 1;
-    }
+    cells.copy_from_slice(&b.cells[..b.w * b.h]);
 }

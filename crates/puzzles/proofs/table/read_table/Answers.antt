@@ -1,43 +1,46 @@
-use mathlib.Core.Path.{refl, sym, ◌∙◌}
+-- A line that was read has the pairs of its clue, from which its machine is made (`line_right`).
+use mathlib.Core.Path.{refl, sym, subst}
 use native.Mathlib.Omega.{arith}
-use borrow.Author.Tests.{not-true, not-false}
-use Rattle.puzzles.proofs.Filling.{filled_start, filled_turn, filled_fails, filled_end}
+use Rattle.std.proofs.Common.{rules}
+use Rattle.lines.proofs.Reading.{RightLine, line_right}
+use Rattle.puzzles.specs.Table.{Reads}
+use Rattle.puzzles.proofs.Filling.{line_legal, filled_start, filled_turn, filled_fails, filled_end}
 use Rattle.puzzles.proofs.table.read_table.Goals as goal
+use Rattle.puzzles.proofs.table.read_table.Goals.{In_ok-end}
 
-pub overflow_add-n : goal.overflow_add-n
-overflow_add-n c = omega arith
+line : (c : In_ok-end) → RightLine c.args.k c.args.clues.now c.loop-i.at c.in_ok-end.end
+line c = line_right c.args.k c.args.clues.now c.loop-i.at c.in_ok-end.end c.in_ok-end.ensures
 
 pub loop-i-init : goal.loop-i-init
-loop-i-init c = filled_start _ _ _ _ c.requires.3
+loop-i-init c = filled_start _ _ _ _ (search rules)
 
-pub read_machine-line-requires : goal.read_machine-line-requires
-read_machine-line-requires c = let p = c.requires in (p.0, omega arith, c.loop-i.invariant.room)
-
-pub shape_of-masks-then-not-line : goal.shape_of-masks-then-not-line
-shape_of-masks-then-not-line c = c.read_machine-line.ensures.long ∙ (c.loop-i.invariant.room ∙ sym c.requires.3)
-
-pub returns-then-not-line : goal.returns-then-not-line
-returns-then-not-line c =
+pub returns-in_err-end : goal.returns-in_err-end
+returns-in_err-end c =
     let l = c.loop-i in
     let a = c.args in
-    filled_fails _ _ _ _ l.at l.i l.invariant a.w a.h _ c.read_machine-line.result refl c.loop-i-test.true c.read_machine-line.ensures (not-true _ c.if-not-line.true)
+    subst (Reads a.k a.w a.h a.clues.now) (sym c.from_residual.ensures)
+    (filled_fails _ _ _ _ l.at l.i l.invariant a.w a.h refl c.loop-i-test.true c.in_err-end.ensures)
 
-pub overflow_add-i : goal.overflow_add-i
-overflow_add-i c = omega arith
+pub slice_bounds-machine_of-count : goal.slice_bounds-machine_of-count
+slice_bounds-machine_of-count c = let l = line c in omega (arith, l.after)
 
-pub loop-i-smaller : goal.loop-i-smaller
-loop-i-smaller c = omega arith
+pub slice_bounds-machine_of-start : goal.slice_bounds-machine_of-start
+slice_bounds-machine_of-start c = let l = line c in omega (arith, l.after)
+
+pub slice_bounds-machine_of-end : goal.slice_bounds-machine_of-end
+slice_bounds-machine_of-end c = (line (goal.at.slice_bounds-machine_of-end c).In_ok-end).inside
+
+pub machine_of-requires : goal.machine_of-requires
+machine_of-requires c = line_legal c.args.k _ _ _ (omega arith) (line (goal.at.machine_of-requires c).In_ok-end)
 
 pub loop-i-preserved : goal.loop-i-preserved
 loop-i-preserved c =
     let l = c.loop-i in
-    filled_turn _ _ _ _ l.at l.i l.invariant _ c.read_machine-line.result c.requires.0 c.loop-i-test.true c.read_machine-line.ensures (not-false _ c.if-not-line.false)
-
-pub shape_of-masks : goal.shape_of-masks
-shape_of-masks c = c.loop-i.invariant.room ∙ sym c.requires.3
+    filled_turn _ _ _ _ l.at l.i l.invariant _ _ (omega arith) c.loop-i-test.true (omega arith) (line (goal.at.loop-i-preserved c).In_ok-end) c.machine_of.ensures
 
 pub returns : goal.returns
 returns c =
     let l = c.loop-i in
     let a = c.args in
-    filled_end _ _ _ _ l.at l.i l.invariant a.w a.h refl c.loop-i-test.false
+    subst (Reads a.k a.w a.h a.clues.now) (sym c.then_some.ensures)
+    (filled_end _ _ _ _ l.at l.i l.invariant a.w a.h refl c.loop-i-test.false)
