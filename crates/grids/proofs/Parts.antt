@@ -15,16 +15,9 @@ use Rattle.rules.proofs.Tests.{by_test, and_true, and_none, true_and}
 
 -- ## Sizes
 
--- how many cells a board has
-record Size (w h : ℕ) : Type 0 where
-  pub some : 1 ≤ w * h
-  pub few : w * h ≤ 256
-
-board_size : (w h : ℕ) → side w ≡ true → side h ≡ true → Size w h
-board_size w h p q =
-    let a = and_true (leb 1 w) (leb w 16) p in
-    let b = and_true (leb 1 h) (leb h 16) q in
-    record { some = mul-le-mul (leb-true 1 w a.0) (leb-true 1 h b.0); few = mul-le-mul (leb-true w 16 a.1) (leb-true h 16 b.1) }
+-- a board has cells
+some_cells : (w h : ℕ) → side w ≡ true → side h ≡ true → 1 ≤ w * h
+some_cells w h p q = mul-le-mul (leb-true 1 w (and_true (leb 1 w) (leb w 16) p).0) (leb-true 1 h (and_true (leb 1 h) (leb h 16) q).0)
 
 -- so many grids fit just if a division says so
 fit : {n size l : ℕ} → 1 ≤ size → n ≤ l / size → n * size ≤ l
@@ -50,16 +43,16 @@ module _ (list : List ℕ) (w h n i : ℕ) where
     sides : side w && side h ≡ true
     sides = true_and wide high
 
-    size : Size w h
-    size = board_size w h wide high
+    some : 1 ≤ w * h
+    some = some_cells w h wide high
 
     pub refused_list : length list / (w * h) < n → no_part 16 ≡ grid_of list w h n i
     unfolding grid_of
-    refused_list l = rw (sides, lt-leb (n * (w * h)) (length list) (do_not_fit size.some l), grid_of, test_room) refl
+    refused_list l = rw (sides, lt-leb (n * (w * h)) (length list) (do_not_fit some l), grid_of, test_room) refl
 
     module _ (few : n ≤ length list / (w * h)) where
       enough : leb (n * (w * h)) (length list) ≡ true
-      enough = le-leb (n * (w * h)) (length list) (fit size.some few)
+      enough = le-leb (n * (w * h)) (length list) (fit some few)
 
       pub refused_grid : n ≤ i → no_part 20 ≡ grid_of list w h n i
       unfolding grid_of
@@ -71,7 +64,7 @@ module _ (list : List ℕ) (w h n i : ℕ) where
 
       -- it ends before the list does
       inside : i < n → i * (w * h) + w * h ≤ length list
-      inside l = omega (arith, fit size.some few, suc-mul i (w * h), mul-le-mul l (le_refl (w * h)))
+      inside l = omega (arith, fit some few, suc-mul i (w * h), mul-le-mul l (le_refl (w * h)))
 
       pub placed : i < n → Placed list w h n i (record { start = i * (w * h); size = w * h })
       placed l = record { handed = handed l; starts = refl; sized = refl; inside = inside l }
