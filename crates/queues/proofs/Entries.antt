@@ -1,28 +1,29 @@
 -- How the queue's arrays follow the rules: what each store does, and what is taken out.
 use mathlib.Core.Path.{◌≡◌, refl, sym, ap, ◌∙◌}
-use mathlib.Core.List.{List, ◌∷◌}
+use mathlib.Core.List.{List}
 use mathlib.Core.Option as Math
 use Prim.Native.Nat.{ℕ, ◌+◌, ◌≤◌, ◌<◌}
-use native.Mathlib.Numerals.{add-one}
 use native.Mathlib.Omega.{arith}
-use lib.ListN.{length, length-set, get_or, get_or-replicate, set, replicate, drop, drop_of_length-le}
-use lib.Seq.{drop-cons, get_or-set_same, get_or-set_other, set_out}
+use lib.ListN.{length, length-set, get_or, get_or-replicate, set, replicate, drop}
+use lib.Seq.{get_or-set_same, get_or-set_other, set_out}
 use lib.Ieee.{Float, nan}
 use borrow.Author.Rules.{rules}
 use mir.Val.{Val}
 use denote.Laws.{Is}
 use denote.Struct.Declared.{row}
 use Rattle.std.specs.Prelude.{None, Some}
+use Rattle.std.proofs.lemmas.List.{at_drop_more, at_drop_all}
 use Rattle.cells.specs.declared.CellNo.{CellNo}
 use Rattle.cells.specs.Numbers.{cell_numbers}
 use Rattle.rules.specs.Lists.{from}
 use Rattle.rules.specs.Queues.{leader, push, pop}
 use Rattle.rules.specs.Floats.{higher}
-use Rattle.rules.specs.Probing.{push_all}
+use Rattle.rules.specs.Probing.{CellQueue, push_all}
 use Rattle.rules.proofs.Given.{length_given, given_at, given_alike, given_set}
-use Rattle.rules.proofs.Queues.{pop_leader, pop_nothing, pop_some, pop_low}
+use Rattle.rules.proofs.Queues.{pop_some, pop_low}
 use Rattle.queues.specs.declared.Queue.{Queue}
 use Rattle.queues.specs.Entries.{entry, entry_at, queue_of, Holds, TakenFrom}
+use Rattle.queues.proofs.Leading.{none_pops, found_pops}
 use Rattle.queues.specs.contracts.Queue as queue
 
 -- a queue that a function is passed, or is returned, has 256 places
@@ -74,9 +75,6 @@ past_holds q c p h k = record { size = refl; within = h; queue = sym (set_out (q
 
 -- ## Many pushed, one after the other
 
-drop_from : {A : Type 0} (l : List A) (k : ℕ) (d : A) → k < length l → drop k l ≡ get_or l k d ∷ drop (k + 1) l
-drop_from l k d h = rw add-one (drop-cons l k d h)
-
 -- pushing the cells from place k on is all that is left to do
 pub record Pushing (cells : List CellNo) (p : Float) (whole q : Queue) (k : ℕ) : Type 0 where
   pub size : q.n ≡ whole.n
@@ -84,17 +82,20 @@ pub record Pushing (cells : List CellNo) (p : Float) (whole q : Queue) (k : ℕ)
   pub rest : push_all (cell_numbers (drop k cells)) p (queue_of q) ≡ push_all (cell_numbers cells) p (queue_of whole)
 
 module _ (cells : List CellNo) (p : Float) (whole q : Queue) (k : ℕ) (t : Pushing cells p whole q k) where
+  abbrev pushed_all : List CellNo → CellQueue
+  pushed_all cs = push_all (cell_numbers cs) p (queue_of q)
+
   pub pushing_turn : (d : CellNo) (r : Queue) → k < length cells → Holds q.n (push (get_or cells k d).0 p (queue_of q)) r → Pushing cells p whole r (k + 1)
   unfolding push_all
   pushing_turn d r h u = record {
     size = u.size ∙ t.size;
     within = u.within;
-    rest = ap (push_all (cell_numbers (drop (k + 1) cells)) p) u.queue ∙ ap (λ cs. push_all (cell_numbers cs) p (queue_of q)) (sym (drop_from cells k d h)) ∙ t.rest;
+    rest = ap (push_all (cell_numbers (drop (k + 1) cells)) p) u.queue ∙ sym (at_drop_more pushed_all cells k d h) ∙ t.rest;
   }
 
   pub pushing_end : length cells ≤ k → Holds whole.n (push_all (cell_numbers cells) p (queue_of whole)) q
   unfolding push_all
-  pushing_end h = record { size = t.size; within = t.within; queue = ap (λ cs. push_all (cell_numbers cs) p (queue_of q)) (sym (drop_of_length-le cells h)) ∙ t.rest }
+  pushing_end h = record { size = t.size; within = t.within; queue = sym (at_drop_all pushed_all cells k h) ∙ t.rest }
 
 -- ## Taking out
 
@@ -111,17 +112,14 @@ taken_holds q c l h = record {
       (λ k m e. rw (get_or-set_other q.waits c k 0 0 e));
 }
 
--- what the leader is decides what is popped
+-- what the leader is decides what is taken out
 module _ (q : Queue) (h : q.n ≤ 256) where
-  led : (o : Math.Option (ℕ × Float)) → o ≡ leader higher (queue_of q) (from 0 q.n) Math.none → leader higher (queue_of q) (from 0 (length (queue_of q))) Math.none ≡ o
-  led o e = ap (λ m. leader higher (queue_of q) (from 0 m) Math.none) (queue_length q) ∙ sym e
-
   pub none_taken : Math.none ≡ leader higher (queue_of q) (from 0 q.n) Math.none → TakenFrom q None q
-  none_taken e = record { first = sym (pop_nothing higher (queue_of q) (led Math.none e)); below = tt; size = refl; within = h }
+  none_taken e = record { first = sym (none_pops higher (queue_of q) q.n (queue_length q) e); below = tt; size = refl; within = h }
 
   module _ (c : ℕ) (p : Float) (e : Math.some (c, p) ≡ leader higher (queue_of q) (from 0 q.n) Math.none) where
     pops : pop higher (queue_of q) ≡ Math.some (c, set (queue_of q) c Math.none)
-    pops = pop_leader higher (queue_of q) c p (led (Math.some (c, p)) e)
+    pops = found_pops higher (queue_of q) q.n (queue_length q) c p e
 
     pub leader_low : c < q.n
     leader_low = rw (← queue_length q) (pop_low (queue_of q) c _ (pop_some higher (queue_of q) _ _ pops))
