@@ -1,0 +1,3 @@
+-- Laws of reading vectors.
+pub mod Finding
+pub mod Putting

@@ -1,0 +1,2 @@
+-- What is read of a text of vectors.
+pub mod Numbers
