@@ -38,14 +38,16 @@ fn four(rt: &impl Print, max: u64) -> io::Result<()> {
 
 // max, min, the number and the rate's bits.
 fn line(rt: &impl Print, max: u64, min: u64) -> io::Result<()> {
-    let number = rates::rate(max, min).number;
-    let bits = bits(max, min);
+    let (number, bits) = answer(max, min);
     println!(rt; "{max}\t{min}\t{number}\t{bits:016x}")
 }
 
-// The bits of a rate: it is never a NaN.
-fn bits(max: u64, min: u64) -> u64 {
-    rates::rate(max, min).rate.to_bits()
+// The number that comes with a rate, and the rate's bits, which is never a NaN; the number of a refusal, and no bits.
+fn answer(max: u64, min: u64) -> (u8, u64) {
+    match rates::rate(max, min) {
+        Ok(rate) => (0, rate.to_bits()),
+        Err(refusal) => (refusal.number(), 0),
+    }
 }
 
 // How many pairs were summed, and their sum: each step takes 33 times the sum so far, and the bits of one more rate.
@@ -68,9 +70,10 @@ impl Summary {
     }
 
     fn with(self, max: u64, min: u64) -> Self {
+        let (_, bits) = answer(max, min);
         Summary {
             pairs: self.pairs.wrapping_add(1),
-            sum: self.sum.wrapping_mul(33).wrapping_add(bits(max, min)),
+            sum: self.sum.wrapping_mul(33).wrapping_add(bits),
         }
     }
 }

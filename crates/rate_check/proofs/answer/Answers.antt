@@ -1,7 +1,7 @@
 -- A rate that is answered is plain, so that it is no NaN and has bits.
 use Rattle.rules.proofs.Plain.{not_nan}
 use Rattle.rates.proofs.Answers.{answered_plain}
-use Rattle.rate_check.proofs.bits.Goals as goal
+use Rattle.rate_check.proofs.answer.Goals as goal
 
 pub float_to_bits-result : goal.float_to_bits-result
-float_to_bits-result c = not_nan (answered_plain c.rate.ensures)
+float_to_bits-result c = not_nan (answered_plain c.in-Ok.ensures)
