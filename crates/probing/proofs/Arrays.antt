@@ -1,9 +1,8 @@
--- What the arrays of boards hold: 256 cells, each a byte.
-use mathlib.Core.Path.{◌≡◌}
+-- What the arrays of boards hold: bytes.
 use mathlib.Core.List.{List, [], ◌∷◌}
 use Prim.Native.Nat.{ℕ, zero, suc, ◌<◌}
 use native.Mathlib.Omega.{arith}
-use lib.ListN.{length, get_or}
+use lib.ListN.{get_or}
 use mir.Syntax.{w8}
 use mir.Val.{Val}
 use denote.Array.{each}
@@ -12,10 +11,7 @@ use denote.Plain.{UInt}
 use denote.Shadow.{shadow}
 use denote.Struct.Declared.{row}
 use Rattle.boards.specs.declared.board.Board.{Board}
-use Rattle.boards.proofs.Sizes.{board_cells}
 use Rattle.boards.specs.contracts.board.Board as board
-use Rattle.probing.specs.declared.rounds.Pushed.{Pushed}
-use Rattle.probing.specs.contracts.rounds.Pushed as pushed
 
 bytes : (l : List ℕ) (vs : List Val) → shadow (each ℕ (UInt w8).own_val l vs) → (j : ℕ) → get_or l j 0 < 256
 bytes [] vs p j = omega arith
@@ -26,7 +22,3 @@ bytes (x ∷ l) (v ∷ vs) p (suc j) = bytes l vs p.1 j
 -- the cells of a board that a function is passed are bytes
 pub board_bytes : (b : Board) (vs : List Val) → Is (row board.the_type) b vs → (j : ℕ) → get_or b.cells j 0 < 256
 board_bytes b vs p = bytes b.cells _ p.1.1.1.1.0.1.1
-
--- the board that comes with a queue has 256 cells in its array
-pub pushed_cells : (r : Pushed) (vs : List Val) → Is (row pushed.the_type) r vs → length r.board.cells ≡ 256
-pushed_cells r vs p = board_cells r.board _ p.1.1.1.0

@@ -1,16 +1,16 @@
 -- Boards and puzzles of one size, and the cells on them.
 use mathlib.Core.Path.{◌≡◌, refl, sym, ap₂, ◌∙◌}
 use mathlib.Core.List.{List, []}
-use Prim.Native.Nat.{ℕ, ◌*◌, ◌<◌}
+use Prim.Native.Nat.{◌*◌, ◌<◌}
 use native.Mathlib.Omega.{arith}
 use lib.ListN.{get_or}
 use lib.Seq.{get_or-take}
 use Rattle.rules.specs.Boards.{Cell, at, Puzzle}
+use Rattle.lines.specs.declared.machine.Machine.{Machine}
 use Rattle.boards.specs.declared.board.Board.{Board}
 use Rattle.boards.specs.Board.{board_of, Sized, SameSize}
 use Rattle.boards.specs.Table.{Table, Playable}
-use Rattle.boards.proofs.Sizes.{few_cells}
-use Rattle.probing.specs.Neighbours.{OfSize, Placed}
+use Rattle.probing.specs.Neighbours.{OfSize}
 
 -- a puzzle of a board's size
 pub size_of : Board → Puzzle
@@ -34,18 +34,15 @@ same_cells s = ap₂ ◌*◌ s.wide s.high
 
 -- the table of a puzzle of the board's size
 module _ {a b : Board} (s : SameSize a b) where
-  pub table_size : {z : Puzzle} {masks : List ℕ} → Table z a.w a.h masks → OfSize z b
+  pub table_size : {z : Puzzle} {machines : List Machine} → Table z a.w a.h machines → OfSize z b
   table_size t = record { wide = t.wide ∙ sym s.wide; high = t.high ∙ sym s.high }
 
-  pub table_same : {z : Puzzle} {masks : List ℕ} → Table z a.w a.h masks → Table z b.w b.h masks
+  pub table_same : {z : Puzzle} {machines : List Machine} → Table z a.w a.h machines → Table z b.w b.h machines
   table_same t = rw (s.wide, s.high) t
 
-  pub playable_same : {masks : List ℕ} → Playable a.w a.h masks → Playable b.w b.h masks
+  pub playable_same : {machines : List Machine} → Playable a.w a.h machines → Playable b.w b.h machines
   playable_same p = rw (s.wide, s.high) p
 
 -- on the board the array has the board's sets
 pub at_cell : (b : Board) (c : Cell) → c < b.w * b.h → at (board_of b) c ≡ get_or b.cells c 0
 at_cell b c h = get_or-take (b.w * b.h) b.cells c 0 h
-
-pub placed : (b : Board) (c : ℕ) → Sized b → c < b.w * b.h → Placed b.w c
-placed b c s h = record { wide = s.wide; narrow = s.narrow; low = omega (arith, few_cells b s) }

@@ -6,7 +6,7 @@ use Prim.Native.Nat.{ℕ, ◌+◌, ◌≤◌, ◌<◌}
 use native.Mathlib.Nat.{add-zero}
 use native.Mathlib.Omega.{arith}
 use lib.Dec.{eqb, ltb}
-use lib.ListN.{length, get_or, set, replicate, length-set}
+use lib.ListN.{length, get_or, replicate, length-set}
 use lib.Seq.{get_or-set_same, get_or-set_other}
 use borrow.Author.Tests.{lt-ltb, le-ltb, eq-eqb, ne_eqb, ltb-true, ltb-false}
 use Rattle.rules.specs.Lists.{keep, from, digit}
@@ -26,18 +26,10 @@ use Rattle.probing.specs.Probing.{with_outcome}
 
 -- ## One colour
 
-module _ (x : Colour) (r : Impact) {v : Bool} where
-  pub outcome_lacks : (o : Option ℕ) → v ≡ false → r ≡ with_outcome v x o r
-  unfolding with_outcome
-  outcome_lacks o e = rw e
-
-  pub outcome_solves : {o : Option ℕ} {n : ℕ} → v ≡ true → o ≡ some n → record { bad = r.bad; counts = set r.counts x n; steps = r.steps + 1 } ≡ with_outcome v x o r
-  unfolding with_outcome
-  outcome_solves e f = rw (e, f)
-
-  pub outcome_fails : {o : Option ℕ} {s : ℕ} → v ≡ true → o ≡ none → s ≡ including r.bad x → record { bad = s; counts = r.counts; steps = r.steps + 1 } ≡ with_outcome v x o r
-  unfolding with_outcome
-  outcome_fails e f g = rw (e, f, g)
+-- one colour is assumed if the cell has it
+abbrev pub tried : Bool → Colour → Option ℕ → Impact → Impact
+tried true x o r = with_outcome x o r
+tried false x o r = r
 
 -- those below x that pass a test, and x where it passes
 added : (p : ℕ → Bool) (w : Bool) (k x : ℕ) → w ≡ ltb k x && p k → w || (eqb k x && p x) ≡ ltb k (x + 1) && p k
@@ -49,20 +41,18 @@ added p w k x h = by_equal k x
 
 -- what it changes
 module _ (x : Colour) (r : Impact) where
-  outcome_low : (v : Bool) (o : Option ℕ) → r.bad < 256 → (with_outcome v x o r).bad < 256
-  unfolding with_outcome including
+  outcome_low : (v : Bool) (o : Option ℕ) → r.bad < 256 → (tried v x o r).bad < 256
+  unfolding including
   outcome_low false o h = h
   outcome_low true none h = set_of-low 8 (λ y. has r.bad y || eqb y x)
   outcome_low true (some n) h = h
 
-  outcome_long : (v : Bool) (o : Option ℕ) → length (with_outcome v x o r).counts ≡ length r.counts
-  unfolding with_outcome
+  outcome_long : (v : Bool) (o : Option ℕ) → length (tried v x o r).counts ≡ length r.counts
   outcome_long false o = refl
   outcome_long true none = refl
   outcome_long true (some n) = length-set r.counts x n
 
-  outcome_steps : (v : Bool) (o : Option ℕ) → (with_outcome v x o r).steps ≡ r.steps + digit v
-  unfolding with_outcome
+  outcome_steps : (v : Bool) (o : Option ℕ) → (tried v x o r).steps ≡ r.steps + digit v
   outcome_steps false o = sym (add-zero r.steps)
   outcome_steps true none = refl
   outcome_steps true (some n) = refl
@@ -70,18 +60,16 @@ module _ (x : Colour) (r : Impact) where
   nothing_more : (k : ℕ) → has r.bad k ≡ has r.bad k || (eqb k x && false)
   nothing_more k = sym (ap (λ w. has r.bad k || w) (and_none (eqb k x)) ∙ or_none (has r.bad k))
 
-  outcome_bad : (v : Bool) (o : Option ℕ) (k : ℕ) → k < 8 → has (with_outcome v x o r).bad k ≡ has r.bad k || (eqb k x && (v && fails o))
-  unfolding with_outcome including
+  outcome_bad : (v : Bool) (o : Option ℕ) (k : ℕ) → k < 8 → has (tried v x o r).bad k ≡ has r.bad k || (eqb k x && (v && fails o))
+  unfolding including
   outcome_bad false o k h = nothing_more k
   outcome_bad true none k h = has-set_of 8 (λ y. has r.bad y || eqb y x) k h ∙ ap (λ w. has r.bad k || w) (sym (and_all (eqb k x)))
   outcome_bad true (some n) k h = nothing_more k
 
-  outcome_here : (v : Bool) (o : Option ℕ) (n : ℕ) → x < length r.counts → v ≡ true → o ≡ some n → get_or (with_outcome v x o r).counts x 0 ≡ n
-  unfolding with_outcome
+  outcome_here : (v : Bool) (o : Option ℕ) (n : ℕ) → x < length r.counts → v ≡ true → o ≡ some n → get_or (tried v x o r).counts x 0 ≡ n
   outcome_here v o n h e f = rw (e, f) (get_or-set_same r.counts x n 0 h)
 
-  outcome_other : (v : Bool) (o : Option ℕ) (k : ℕ) → (k ≡ x → ⊥) → get_or (with_outcome v x o r).counts k 0 ≡ get_or r.counts k 0
-  unfolding with_outcome
+  outcome_other : (v : Bool) (o : Option ℕ) (k : ℕ) → (k ≡ x → ⊥) → get_or (tried v x o r).counts k 0 ≡ get_or r.counts k 0
   outcome_other false o k h = refl
   outcome_other true none k h = refl
   outcome_other true (some n) k h = get_or-set_other r.counts x k n 0 h
@@ -113,17 +101,26 @@ module _ (z : Puzzle) (b : Rules.Board) (c : Cell) where
     o : Option ℕ
     o = assume z b c x
 
-    pub tried_turn : (a : Impact) → x < 8 → a ≡ with_outcome (has (at b c) x) x (assume z b c x) r → Tried z b c (x + 1) a
+    turn : x < 8 → Tried z b c (x + 1) (tried v x o r)
     unfolding v o
-    tried_turn a h e = rw e (record {
+    turn h = record {
       low = outcome_low x r v o t.low;
       long = outcome_long x r v o ∙ t.long;
       steps = rw (outcome_steps x r v o) (counted_turn (has (at b c)) 8 r.steps x t.steps (digit v) h refl);
       bad = λ k l. outcome_bad x r v o k l ∙ added (λ k. has (at b c) k && fails (assume z b c k)) (has r.bad k) k x (t.bad k l);
       counts = λ k n l f g. by_equal k x
-          (λ e. ap (λ j. get_or (with_outcome v x o r).counts j 0) e ∙ outcome_here x r v o n (omega (arith, t.long)) (ap (has (at b c)) (sym e) ∙ f) (ap (assume z b c) (sym e) ∙ g))
+          (λ e. ap (λ j. get_or (tried v x o r).counts j 0) e ∙ outcome_here x r v o n (omega (arith, t.long)) (ap (has (at b c)) (sym e) ∙ f) (ap (assume z b c) (sym e) ∙ g))
           (λ e. outcome_other x r v o k e ∙ t.counts k n (omega arith) f g);
-    })
+    }
+
+    -- the colour was assumed, since the cell has it
+    pub tried_has : {a : Impact} {p : Option ℕ} → x < 8 → has (at b c) x ≡ true → p ≡ assume z b c x → a ≡ with_outcome x p r → Tried z b c (x + 1) a
+    unfolding turn v o
+    tried_has h e f g = rw (g, f) (rw e at (turn h))
+
+    pub tried_lacks : {a : Impact} → x < 8 → has (at b c) x ≡ false → a ≡ r → Tried z b c (x + 1) a
+    unfolding turn v o
+    tried_lacks h e g = rw g (rw e at (turn h))
 
     pub tried_bad : 8 ≤ x → contradicting (outcomes z b c) ≡ colours r.bad
     unfolding outcomes members

@@ -1,6 +1,5 @@
 -- What the proofs of this crate share.
 pub mod Frames
-pub mod Adding
 pub mod Sides
 pub mod Pushing
 pub mod Starting

@@ -23,9 +23,10 @@ use Rattle.rules.proofs.Queues.{filled, filled_none, filled_all, filled_push, fi
 use Rattle.boards.specs.declared.board.Board.{Board}
 use Rattle.boards.specs.declared.line.Line.{Line}
 use Rattle.boards.specs.Board.{board_of, Sized}
-use Rattle.boards.specs.Line.{line_at, places}
+use Rattle.boards.specs.Line.{line_at, places, Reaches}
+use Rattle.boards.proofs.Sizes.{few_cells}
 use Rattle.boards.proofs.Places.{line_row, line_column, length_places}
-use Rattle.boards.proofs.Crossing.{place, line_cells_lem, cell_row}
+use Rattle.boards.proofs.Crossing.{place, line_cells_lem, cell_row, reaches}
 use Rattle.queues.specs.declared.Queue.{Queue}
 use Rattle.queues.specs.Entries.{queue_of, Holds}
 use Rattle.queues.proofs.Entries.{Long, pushed, pushed_holds, pushed_long}
@@ -38,6 +39,10 @@ use Rattle.probing.proofs.Frames.{at_cell}
 -- cell j of a line is solved
 abbrev pub solved_at : Board → Line → ℕ → Bool
 solved_at b l j = single (get_or b.cells (place l j) 0)
+
+-- the line's places are in the array
+pub reaches_line : (b : Board) (i : ℕ) {l : Line} → Sized b → i < b.h + b.w → l ≡ line_at b.w b.h i → Reaches l 256
+reaches_line b i s h e = rw e (reaches b.w b.h i 256 s.narrow s.low h (few_cells b s))
 
 pub solved_line : (b : Board) (i : ℕ) → i < b.h + b.w → (z : Puzzle) → OfSize z b →
     length (keep (solved_at b (line_at b.w b.h i)) (from 0 (line_at b.w b.h i).len)) ≡ solved_of (board_of b) (line_cells z i)

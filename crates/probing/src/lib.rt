@@ -7,5 +7,5 @@ mod rounds;
 mod start;
 
 pub use neighbours::push_both;
-pub use rounds::{Probed, Pushed, propagate_point, run, run_unsolved};
+pub use rounds::{Probed, propagate_point, run, run_unsolved};
 pub use start::unsolved_cells;

@@ -1,5 +1,4 @@
--- The invariant: the colours before x are assumed, whatever puzzle the table is of. The measure is what is left of the colours.
-use Prim.Native.Nat.{◌-◌, ◌≤◌}
+-- The invariant: the colours before x are assumed, whatever puzzle the table is of.
 use Rattle.rules.specs.Boards.{Puzzle}
 use Rattle.boards.specs.Board.{board_of}
 use Rattle.boards.specs.Table.{Table}
@@ -7,7 +6,4 @@ use Rattle.probing.proofs.Impacts.{Tried}
 use Rattle.probing.proofs.probe.probe.Given as goal
 
 abbrev pub invariant-loop-x : goal.invariant-loop-x
-invariant-loop-x l = (l.x ≤ 8) × ((z : Puzzle) → Table z l.board.w l.board.h l.masks → Tried z (board_of l.board) l.c.0 l.x l.impact)
-
-abbrev pub decreases-loop-x : goal.decreases-loop-x
-decreases-loop-x l = 8 - l.x
+invariant-loop-x l = (z : Puzzle) → Table z l.board.w l.board.h l.machines → Tried z (board_of l.board) l.c.0 l.x l.impact

@@ -1,27 +1,21 @@
--- Propagating and pushing go as the rules do; at a contradiction nothing has changed.
-use mathlib.Core.Path.{refl}
-use borrow.Author.Tests.{not-true, not-false}
-use Rattle.probing.proofs.Frames.{size_of, of_size, same_refl, table_size}
+-- Propagating and pushing go as the rules do.
+use Rattle.probing.proofs.Frames.{size_of, of_size, table_size}
 use Rattle.probing.proofs.Cutting.{point_fails, point_pushes}
 use Rattle.probing.proofs.rounds.propagate_point.Goals as goal
 
-pub returns-then-not-p : goal.returns-then-not-p
-returns-then-not-p c =
-    record {
-      size = same_refl c.args.board;
-      room = refl;
-      within = c.requires.3;
-      to = λ z t. point_fails c.args.board c.args.c.0 c.args.queue z c.propagate-p.result (c.propagate-p.ensures.to z t) (not-true _ c.if-not-p.true);
-    }
+pub returns-in_err-end : goal.returns-in_err-end
+returns-in_err-end c =
+    let a = c.args in
+    rw c.from_residual.ensures (record { size = tt; room = tt; within = tt; to = λ z t. point_fails a.board a.c.0 a.queue z (c.in_err-end.ensures.to z t) })
 
 pub returns : goal.returns
 returns c =
-    let end = c.propagate-p.result.board in
+    let a = c.args in
+    let end = c.in_ok-end.end in
     let u = c.push_both.ensures (size_of end) (of_size end) in
     record {
-      size = c.propagate-p.ensures.size;
+      size = c.in_ok-end.ensures.size;
       room = u.size;
       within = u.within;
-      to = λ z t. point_pushes c.args.board c.args.c.0 c.args.queue z c.propagate-p.result (c.propagate-p.ensures.to z t) c.push_both.result
-          (not-false _ c.if-not-p.false) (c.push_both.ensures z (table_size c.propagate-p.ensures.size t));
+      to = λ z t. point_pushes a.board a.c.0 a.queue z end c.push_both.result (c.in_ok-end.ensures.to z t) (c.push_both.ensures z (table_size c.in_ok-end.ensures.size t));
     }

@@ -1,28 +1,22 @@
-use native.Mathlib.Omega.{arith}
-use Rattle.probing.proofs.Cutting.{removing_start, removing_turn, removing_end}
+use Rattle.std.proofs.Common.{sym, ◌∙◌}
+use Rattle.probing.proofs.Cutting.{removing_start, removing_turn, removing_pass, removing_end}
 use Rattle.probing.proofs.rounds.remove_all.Goals as goal
+use Rattle.probing.proofs.rounds.remove_all.Goals.{then-has, else-has}
 
 pub loop-x-init : goal.loop-x-init
 loop-x-init c = removing_start c.args.board _ _
 
-pub has-requires : goal.has-requires
-has-requires c = c.loop-x-test.true
-
-pub remove_if-b-requires : goal.remove_if-b-requires
-remove_if-b-requires c = c.loop-x-test.true
-
-pub overflow_add-x : goal.overflow_add-x
-overflow_add-x c = omega arith
-
-pub loop-x-smaller : goal.loop-x-smaller
-loop-x-smaller c = omega arith
-
 pub loop-x-preserved : goal.loop-x-preserved
 loop-x-preserved c =
     let l = c.loop-x in
-    removing_turn c.args.board c.args.c.0 c.args.bad l.b l.x c.remove_if-b.result l.invariant c.requires c.loop-x-test.true c.has.ensures c.remove_if-b.ensures
+    let a = c.args in
+    let on = c.loop-x-test.true in
+    elim c.if-has.branch [
+      | then-has w ↦ removing_turn a.board a.c.0 a.bad l.board l.x l.invariant on c.requires (sym c.has.ensures ∙ w.if-has.true) (w.board-is ∙ w.remove-board.ensures)
+      | else-has w ↦ rw w.board-is (removing_pass a.board a.c.0 a.bad l.board l.x l.invariant on (sym c.has.ensures ∙ w.if-has.false))
+    ]
 
 pub returns : goal.returns
 returns c =
     let l = c.loop-x in
-    (l.invariant.size, removing_end c.args.board c.args.c.0 c.args.bad l.b l.x l.invariant c.loop-x-test.false)
+    (l.invariant.size, removing_end c.args.board c.args.c.0 c.args.bad l.board l.x l.invariant c.loop-x-test.false)

@@ -3,8 +3,8 @@
 use Rattle.probing.proofs.Running.{measured, Running}
 use Rattle.probing.proofs.rounds.run.Given as goal
 
-abbrev pub invariant-loop-q : goal.invariant-loop-q
-invariant-loop-q l = Running l.initial.b l.initial.q l.masks l.b l.q l.notes l.steps
+abbrev pub invariant-loop-c : goal.invariant-loop-c
+invariant-loop-c l = Running l.initial.board l.initial.queue l.machines l.board l.queue l.notes l.steps
 
-abbrev pub decreases-loop-q : goal.decreases-loop-q
-decreases-loop-q l = measured l.b l.q
+abbrev pub decreases-loop-c : goal.decreases-loop-c
+decreases-loop-c l = measured l.board l.queue
