@@ -4,5 +4,5 @@
 mod choosing;
 mod round;
 
-pub use choosing::{Order, cell_order, colour_order, rate_by_impact};
-pub use round::{Impact, Note, Notes};
+pub use choosing::{cell_order, colour_order, rate_by_impact};
+pub use round::{Note, Notes};

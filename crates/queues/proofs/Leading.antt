@@ -35,17 +35,24 @@ module _ {A : Type 0} (higher : A → A → Bool) (q : Queue A) (n : ℕ) where
     pub found_pops : (c : ℕ) (p : A) → some (c, p) ≡ leader higher q (from 0 n) none → pop higher q ≡ some (c, set q c none)
     found_pops c p e = pop_leader higher q c p (led (some (c, p)) e)
 
--- the same where numbers wait with a rank made of what they wait with in q
-module _ {A B : Type 0} (f : A → B) (higher : B → B → Bool) where
+-- ## Where a number waits with a rank that is made of what it waits with in q
+
+module _ {A B : Type 0} (f : A → B) where
   abbrev pub ranked : Option A → Option B
   ranked none = none
   ranked (some a) = some (f a)
 
+  pub get_ranked : (q : Queue A) (c : ℕ) → get_or (map ranked q) c none ≡ ranked (get_or q c none)
+  get_ranked [] c = refl
+  get_ranked (o ∷ q) zero = refl
+  get_ranked (o ∷ q) (suc c) = get_ranked q c
+
+module _ {A B : Type 0} (f : A → B) (higher : B → B → Bool) where
   abbrev best_ranked : Option (ℕ × A) → Option (ℕ × B)
   best_ranked none = none
   best_ranked (some e) = some (e.0, f e.1)
 
-  ahead_ranked : (best : Option (ℕ × A)) (c : ℕ) (o : Option A) → ahead higher (best_ranked best) c (ranked o) ≡ best_ranked (ahead (λ a b. higher (f a) (f b)) best c o)
+  ahead_ranked : (best : Option (ℕ × A)) (c : ℕ) (o : Option A) → ahead higher (best_ranked best) c (ranked f o) ≡ best_ranked (ahead (λ a b. higher (f a) (f b)) best c o)
   ahead_ranked best c none = refl
   ahead_ranked none c (some p) = refl
   ahead_ranked (some e) c (some p) = go (higher (f p) (f e.1))
@@ -54,29 +61,24 @@ module _ {A B : Type 0} (f : A → B) (higher : B → B → Bool) where
       go true = refl
       go false = refl
 
-  get_ranked : (q : Queue A) (c : ℕ) → get_or (map ranked q) c none ≡ ranked (get_or q c none)
-  get_ranked [] c = refl
-  get_ranked (o ∷ q) zero = refl
-  get_ranked (o ∷ q) (suc c) = get_ranked q c
-
   abbrev by : A → A → Bool
   by a b = higher (f a) (f b)
 
-  leader_ranked : (q : Queue A) (cs : List ℕ) (best : Option (ℕ × A)) → leader higher (map ranked q) cs (best_ranked best) ≡ best_ranked (leader by q cs best)
+  leader_ranked : (q : Queue A) (cs : List ℕ) (best : Option (ℕ × A)) → leader higher (map (ranked f) q) cs (best_ranked best) ≡ best_ranked (leader by q cs best)
   unfolding leader
   leader_ranked q [] best = refl
-  leader_ranked q (c ∷ cs) best = ap (leader higher (map ranked q) cs) (ap (ahead higher (best_ranked best) c) (get_ranked q c) ∙ ahead_ranked best c (get_or q c none))
+  leader_ranked q (c ∷ cs) best = ap (leader higher (map (ranked f) q) cs) (ap (ahead higher (best_ranked best) c) (get_ranked f q c) ∙ ahead_ranked best c (get_or q c none))
       ∙ leader_ranked q cs (ahead by best c (get_or q c none))
 
   module _ (q : Queue A) (n : ℕ) (l : length q ≡ n) where
-    pub none_ranked : none ≡ leader higher (map ranked q) (from 0 n) none → pop by q ≡ none
+    pub none_ranked : none ≡ leader higher (map (ranked f) q) (from 0 n) none → pop by q ≡ none
     none_ranked e = none_pops by q n l (go (leader by q (from 0 n) none) (e ∙ leader_ranked q (from 0 n) none))
       where
         go : (o : Option (ℕ × A)) → ◌≡◌ {A = Option (ℕ × B)} none (best_ranked o) → none ≡ o
         go none h = refl
         go (some a) h = cc
 
-    pub found_ranked : (c : ℕ) (p : B) → some (c, p) ≡ leader higher (map ranked q) (from 0 n) none → pop by q ≡ some (c, set q c none)
+    pub found_ranked : (c : ℕ) (p : B) → some (c, p) ≡ leader higher (map (ranked f) q) (from 0 n) none → pop by q ≡ some (c, set q c none)
     found_ranked c p e = let r = go (leader by q (from 0 n) none) (e ∙ leader_ranked q (from 0 n) none) in found_pops by q n l c r.0 r.1
       where
         go : (o : Option (ℕ × A)) → ◌≡◌ {A = Option (ℕ × B)} (some (c, p)) (best_ranked o) → (a : A) × (some (c, a) ≡ o)

@@ -1,10 +1,11 @@
--- The invariant: the colours taken out, and those left in order, are all in order. The measure is what is left of the eight.
-use Prim.Native.Nat.{◌-◌}
+-- The invariant: the colours taken out, and those left, are all in order. The measure is how many are left.
+use Rattle.rules.specs.Queues.{waiting}
+use Rattle.notes.specs.Choosing.{waiting_colours}
 use Rattle.notes.proofs.Ordering.{Taken}
 use Rattle.notes.proofs.choosing.order_of.Given as goal
 
-abbrev pub invariant-loop-n : goal.invariant-loop-n
-invariant-loop-n l = Taken l.initial.left l.counts l.left l.n l.colours
+abbrev pub invariant-loop-x : goal.invariant-loop-x
+invariant-loop-x l = Taken l.initial.left l.t.counts l.left l.order.items
 
-abbrev pub decreases-loop-n : goal.decreases-loop-n
-decreases-loop-n l = 8 - l.n
+abbrev pub decreases-loop-x : goal.decreases-loop-x
+decreases-loop-x l = waiting (waiting_colours l.left l.t.counts)

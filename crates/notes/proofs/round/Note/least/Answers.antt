@@ -1,0 +1,15 @@
+-- The smallest is that of the counts that the colours of the set have.
+use borrow.Author.Tests.{tests}
+use borrow.Author.Rules.{rules}
+use mathlib.Core.Path.{refl, ◌∙◌}
+use Rattle.std.proofs.lemmas.Iterator.{YieldsList-from_range}
+use Rattle.std.proofs.lemmas.Iterator.Consumers.{YieldsList-from_filter_map, min_from_yields_List}
+use Rattle.notes.specs.Round.{solves}
+use Rattle.notes.proofs.Rating.{smallest_counted}
+use Rattle.notes.proofs.round.Note.least.Goals as goal
+
+pub returns : goal.returns
+returns c =
+    let t = c.args.self.now in
+    c.unwrap_or.ensures ∙ smallest_counted t c.min.result
+    (min_from_yields_List _ _ c.min.ensures.ran (YieldsList-from_filter_map _ (solves t) (YieldsList-from_range 0 8 8 (cc) refl) c.filter_map.ensures.closure (λ x r q k. search (rules, tests))))
