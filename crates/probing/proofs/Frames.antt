@@ -9,7 +9,7 @@ use Rattle.rules.specs.Boards.{Cell, at, Puzzle}
 use Rattle.lines.specs.declared.machine.Machine.{Machine}
 use Rattle.boards.specs.declared.board.Board.{Board}
 use Rattle.boards.specs.Board.{board_of, Sized, SameSize}
-use Rattle.boards.specs.Table.{Table, Playable}
+use Rattle.boards.specs.Table.{Table}
 use Rattle.probing.specs.Neighbours.{OfSize}
 
 -- a puzzle of a board's size
@@ -39,9 +39,6 @@ module _ {a b : Board} (s : SameSize a b) where
 
   pub table_same : {z : Puzzle} {machines : List Machine} → Table z a.w a.h machines → Table z b.w b.h machines
   table_same t = rw (s.wide, s.high) t
-
-  pub playable_same : {machines : List Machine} → Playable a.w a.h machines → Playable b.w b.h machines
-  playable_same p = rw (s.wide, s.high) p
 
 -- on the board the array has the board's sets
 pub at_cell : (b : Board) (c : Cell) → c < b.w * b.h → at (board_of b) c ≡ get_or b.cells c 0

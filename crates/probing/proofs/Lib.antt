@@ -6,5 +6,4 @@ pub mod Starting
 pub mod Assuming
 pub mod Impacts
 pub mod Cutting
-pub mod Arrays
 pub mod Running

@@ -7,8 +7,7 @@ use Prim.Native.Nat.{ℕ, ◌+◌, ◌-◌, ◌*◌, ◌/◌, ◌%◌, ◌≤◌
 use native.Mathlib.Nat.{mod-lt}
 use native.Mathlib.Omega.{arith}
 use lib.Ieee.{Float}
-use lib.ListN.{length, get_or, set, replicate, length-map}
-use lib.Seq.{get_or-set_same, get_or-set_other}
+use lib.ListN.{length, get_or, replicate, length-map}
 use Rattle.rules.specs.Lists.{keep, from}
 use Rattle.rules.specs.Sets.{single}
 use Rattle.rules.specs.Boards as Rules
@@ -16,7 +15,6 @@ use Rattle.rules.specs.Boards.{Cell, at, Puzzle, row_of, column_of, line_cells, 
 use Rattle.rules.specs.Queues.{push}
 use Rattle.rules.specs.Floats.{priority_of, solved_of, priority}
 use Rattle.rules.specs.Probing.{start_queue}
-use Rattle.rules.proofs.Tests.{by_equal}
 use Rattle.rules.proofs.Lists.{keep_same, keep_map}
 use Rattle.rules.proofs.Boards.{line_low}
 use Rattle.rules.proofs.Queues.{filled, filled_none, filled_all, filled_push, filled_pass}
@@ -53,21 +51,6 @@ solved_line b i h z o =
     sym (ap length (keep_same (λ c. single (at (board_of b) c)) raw (line_cells z i)
     (λ c m. ap single (at_cell b c (rw (o.wide, o.high) at (line_low z i (rw (o.wide, o.high) h) m)))))
     ∙ ap (λ cs. length (keep raw cs)) e ∙ ap length (keep_map raw (place l) (from 0 l.len)) ∙ length-map (keep (solved_at b l) (from 0 l.len)) (place l))
-
--- ## All lines
-
-pub solved_start : (b : Board) (solved : List ℕ) → SolvedOn b 0 solved
-solved_start b solved = record { each = λ z o i h. absurd (omega arith) }
-
-pub solved_turn : (b : Board) (solved : List ℕ) (i n : ℕ) → SolvedOn b i solved → i < length solved → ((z : Puzzle) → OfSize z b → n ≡ solved_of (board_of b) (line_cells z i)) → SolvedOn b (i + 1) (set solved i n)
-solved_turn b solved i n s h f = record {
-  each = λ z o k l. by_equal k i
-      (λ e. ap (λ k. get_or (set solved i n) k 0) e ∙ get_or-set_same solved i n 0 h ∙ f z o ∙ ap (λ k. solved_of (board_of b) (line_cells z k)) (sym e))
-      (λ e. get_or-set_other solved i k n 0 e ∙ s.each z o k (omega arith));
-}
-
-pub solved_end : (b : Board) (solved : List ℕ) (n i : ℕ) → SolvedOn b i solved → n ≤ i → SolvedOn b n solved
-solved_end b solved n i s h = record { each = λ z o k l. s.each z o k (omega arith) }
 
 -- ## All cells
 

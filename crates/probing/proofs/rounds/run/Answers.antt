@@ -1,11 +1,13 @@
-use Rattle.std.proofs.Common.{◌≡◌, length, sym, ◌∙◌, arith, rules}
+use Rattle.std.proofs.Common.{◌≡◌, ℕ, ◌<◌, get_or, length, sym, ◌∙◌, arith, rules}
 use Rattle.boards.proofs.Sizes.{board_cells}
-use Rattle.probing.proofs.Arrays.{board_bytes}
 use Rattle.probing.proofs.Running.{measure_small, running_start, run_solved, run_empty, Popped, steps_small, noted_less, noted_turn, cut_fails, cut_solves, cut_less, cut_turn}
 use Rattle.probing.proofs.rounds.run.Goals as goal
-use Rattle.probing.proofs.rounds.run.Goals.{After-probe-impact}
+use Rattle.probing.proofs.rounds.run.Goals.{Start, After-probe-impact}
 
 -- ## The start and the end
+bytes : (s : Start) → (j : ℕ) → get_or s.args.board.cells j 0 < 256
+bytes s = search rules
+
 pub returns-then-is_solved_full : goal.returns-then-is_solved_full
 returns-then-is_solved_full c =
     run_solved c.args.board c.args.queue _ c.none-notes.result c.requires.0 (board_cells c.args.board _ c.well_formed.0) c.requires.2 c.none-notes.ensures
@@ -14,8 +16,9 @@ returns-then-is_solved_full c =
 pub loop-c-init : goal.loop-c-init
 loop-c-init c =
     let b = c.args.board in
+    let low = bytes (goal.at.loop-c-init c).Start in
     running_start b c.args.queue _ c.none-notes.result c.requires.0 (board_cells b _ c.well_formed.0) c.requires.2 c.none-notes.ensures
-    (measure_small b c.args.queue c.requires.0 c.requires.2 (board_bytes b _ c.well_formed.0)) (sym c.is_solved_full.ensures ∙ c.if-is_solved_full.false)
+    (measure_small b c.args.queue c.requires.0 c.requires.2 low) (sym c.is_solved_full.ensures ∙ c.if-is_solved_full.false)
 
 pub returns : goal.returns
 returns c = run_empty c.loop-c.invariant c.in_default.ensures.first
