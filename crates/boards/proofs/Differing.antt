@@ -1,53 +1,59 @@
--- The bits of the cells whose sets differ, built up from the last cell.
-use mathlib.Core.Path.{◌≡◌, sym, ap, subst, ◌∙◌}
-use mathlib.Core.Bool.{Bool, not}
+-- The bits of the cells whose sets differ, one cell after the other.
+use mathlib.Core.Path.{◌≡◌, refl, sym, ap, ◌∙◌}
+use mathlib.Core.Bool.{Bool, true, false, not, ◌&&◌, ◌||◌}
 use mathlib.Core.List.{List}
-use Prim.Native.Nat.{ℕ, zero, suc, ◌+◌, ◌-◌, ◌*◌, ◌≤◌, ◌<◌}
+use Prim.Native.Nat.{ℕ, ◌+◌, ◌*◌, ◌%◌, ◌^◌, ◌≤◌, ◌<◌}
 use native.Mathlib.Omega.{arith}
+use lib.Bits.{bit_or, or_lt}
 use lib.Dec.{eqb}
 use lib.ListN.{get_or}
-use lib.Pow.{pow_mono}
-use Rattle.rules.specs.Lists.{digit}
-use Rattle.rules.proofs.Sets.{weigh, weigh_low, set_of-weigh}
-use Rattle.boards.specs.Line.{differ_digit, differ_bits}
+use lib.Pow.{pow-lt, pow_mono, pow_pos}
+use borrow.Author.Tests.{eq-eqb, ne_eqb}
+use mir.Val.{bool_byte}
+use Rattle.rules.specs.Sets.{has, set_of}
+use Rattle.rules.proofs.Tests.{by_test, by_equal}
+use Rattle.rules.proofs.Sets.{has_none, has_only, has-set_of, set_of-has, set_of-low, same_set}
+use Rattle.boards.specs.Line.{differ_bits}
+use Rattle.boards.proofs.Pending.{has_or, shifted_one}
 
--- the sets of cell i differ
-abbrev differs : List ℕ → List ℕ → ℕ → Bool
-differs old new i = not (eqb (get_or old i 0) (get_or new i 0))
+-- the set of i alone, where a test passes
+abbrev pub one_if : Bool → ℕ → ℕ
+one_if v i = bool_byte v * 2 ^ i % 4294967296
 
--- the bits of the cells from j on
-pub record Differing (old new : List ℕ) (len bits j : ℕ) : Type 0 where
-  pub those : bits ≡ weigh (differs old new) j (len - j)
-  pub upto : j ≤ len
+one_if_low : (v : Bool) (i : ℕ) → i < 32 → one_if v i < 2 ^ (i + 1)
+one_if_low true i h = let p : 2 ^ i < 2 ^ (i + 1) = (let k : i < i + 1 = omega arith in pow-lt k) in rw (shifted_one i h) p
+one_if_low false i h = let p = pow_pos (i + 1) in omega arith
 
-pub differing_start : (old new : List ℕ) (len : ℕ) → Differing old new len 0 len
-unfolding weigh
-differing_start old new len = let z : len - len ≡ 0 = omega arith in record { those = sym (ap (weigh (differs old new) len) z); upto = omega arith }
+has_one_if : (v : Bool) (i j : ℕ) → i < 32 → has (one_if v i) j ≡ (v && eqb j i)
+has_one_if true i j h = ap (λ s. has s j) (shifted_one i h) ∙ has_only i j
+has_one_if false i j h = let z : 0 * 2 ^ i % 4294967296 ≡ 0 = omega arith in ap (λ s. has s j) z ∙ has_none j
 
-pub differing_turn : (old new : List ℕ) (len bits j d : ℕ) → Differing old new len bits j → 0 < j → d ≡ differ_digit (get_or old (j - 1) 0) (get_or new (j - 1) 0) → Differing old new len (bits * 2 + d) (j - 1)
-unfolding weigh
-differing_turn old new len bits zero d w h e = absurd (omega arith)
-differing_turn old new len bits (suc j) d w h e = subst (Differing old new len (bits * 2 + d)) one (record { those = more; upto = (let z = w.upto in omega arith) })
-  where
-    one : j ≡ suc j - 1
-    one = omega arith
+-- the set of one number more
+module _ (p : ℕ → Bool) (n : ℕ) (h : n < 32) where
+  few : has (set_of n p) n ≡ false
+  few = by_test (has (set_of n p) n) (λ e. let l = (set_of-has n p n e).0 in absurd (omega arith)) (λ e. e)
 
-    more : bits * 2 + d ≡ weigh (differs old new) j (len - j)
-    more =
-        let z : len - j ≡ suc (len - suc j) = (let u = w.upto in omega arith) in
-        let f : d ≡ digit (differs old new j) = e ∙ ap (λ i. digit (differs old new i)) (sym one) in
-        rw z (omega (arith, w.those, f))
+  last : (v : Bool) → (false || (v && true)) ≡ v
+  last true = refl
+  last false = refl
 
-pub differing_end : (old new : List ℕ) (len bits j : ℕ) → Differing old new len bits j → j ≤ 0 → bits ≡ differ_bits old new len
+  others : (u v : Bool) → (u || (v && false)) ≡ u
+  others true v = refl
+  others false true = refl
+  others false false = refl
+
+  set_more : bit_or (set_of n p) (one_if (p n) n) ≡ set_of (n + 1) p
+  set_more = same_set (n + 1) (bit_or (set_of n p) (one_if (p n) n)) (set_of (n + 1) p)
+      (or_lt (n + 1) (set_of n p) (one_if (p n) n) (let l = set_of-low n p in let k : n ≤ n + 1 = omega arith in omega (arith, pow_mono k)) (one_if_low (p n) n h)) (set_of-low (n + 1) p)
+      (λ j l. has_or (set_of n p) (one_if (p n) n) j ∙ ap (λ v. has (set_of n p) j || v) (has_one_if (p n) n j h) ∙ by_equal j n
+      (λ e. rw (e, few, eq-eqb n n refl) (last (p n)))
+      (λ e. rw (ne_eqb j n e, has-set_of n p j (omega arith)) (others (p j) (p n)))
+      ∙ sym (has-set_of (n + 1) p j l))
+
+pub differ_none : (old new : List ℕ) → 0 ≡ differ_bits old new 0
+unfolding differ_bits set_of
+differ_none old new = refl
+
+pub differ_more : (old new : List ℕ) (j : ℕ) → j < 32 → bit_or (differ_bits old new j) (bool_byte (not (eqb (get_or old j 0) (get_or new j 0))) * 2 ^ j % 4294967296) ≡ differ_bits old new (j + 1)
 unfolding differ_bits
-differing_end old new len bits j w h =
-    let z : j ≡ 0 = omega arith in
-    let y : len - 0 ≡ len = omega arith in
-    w.those ∙ ap (λ i. weigh (differs old new) i (len - i)) z ∙ ap (weigh (differs old new) 0) y ∙ sym (set_of-weigh len (differs old new))
-
--- they are small
-pub differing_low : (old new : List ℕ) (len bits j : ℕ) → Differing old new len bits j → len ≤ 16 → bits < 65536
-differing_low old new len bits j w h =
-    let l = weigh_low (differs old new) j (len - j) in
-    let k : len - j ≤ 16 = omega arith in
-    omega (arith, w.those, pow_mono k)
+differ_more old new j h = set_more (λ j. not (eqb (get_or old j 0) (get_or new j 0))) j h

@@ -3,7 +3,6 @@ pub mod Sizes
 pub mod Places
 pub mod Counting
 pub mod Differing
-pub mod Parts
 pub mod Pending
 pub mod Crossing
 pub mod Waking

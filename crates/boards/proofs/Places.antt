@@ -52,10 +52,6 @@ pub record Writing (before sets : List ℕ) (start stride len : ℕ) (cells : Li
   pub upto : j ≤ len
   pub long : length cells ≡ length before
 
-pub writing_start : (before sets : List ℕ) (start stride len : ℕ) → Writing before sets start stride len before 0
-writing_start before sets start stride len = let z : len ≡ len - 0 = omega arith in
-    record { all = ap (λ n. write before (map (λ k. start + k * stride) (from 0 n)) (take len sets)) z; upto = omega arith; long = refl }
-
 pub writing_turn : (before sets : List ℕ) (start stride len : ℕ) (cells : List ℕ) (j : ℕ) → Writing before sets start stride len cells j → j < len → len ≤ length sets →
     Writing before sets start stride len (set cells (start + j * stride) (get_or sets j 0)) (j + 1)
 unfolding write

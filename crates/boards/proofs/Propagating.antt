@@ -29,10 +29,10 @@ use Rattle.boards.specs.Board.{board_of, Sized, SameSize}
 use Rattle.boards.specs.Line.{line_at}
 use Rattle.boards.specs.Table.{Table, Playable}
 use Rattle.boards.specs.Propagation.{NarrowedTo, Narrows, cell_lines, crossed, Propagates}
-use Rattle.boards.proofs.Sizes.{few_cells, at_size, same_size}
+use Rattle.boards.proofs.Sizes.{few_cells, at_size, same_size, sized_as}
 use Rattle.boards.proofs.Places.{take_write}
 use Rattle.boards.proofs.Pending.{shifted_one, lowest_first, lowest_low}
-use Rattle.boards.proofs.Crossing.{crossed_low}
+use Rattle.boards.proofs.Crossing.{cells_low, crossed_low}
 use Rattle.boards.proofs.Waking.{pend_is}
 
 -- ## A step of the rules
@@ -98,9 +98,9 @@ pub record Propagating (b : Board) (machines : List Machine) (first : ℕ) (a : 
   pub size : SameSize b a
   pub long : length a.cells ≡ 256
 
-pub propagating_start : (b : Board) (machines : List Machine) (c p : ℕ) → p ≡ cell_lines b.w b.h c → length b.cells ≡ 256 → Propagating b machines p b p
+pub propagating_start : (b : Board) (machines : List Machine) (c : ℕ) {p : ℕ} → p ≡ cell_lines b.w b.h c → length b.cells ≡ 256 → Propagating b machines p b p
 unfolding cell_lines
-propagating_start b machines c p e long = record {
+propagating_start b machines c {p} e long = record {
   here = λ z t. refl;
   few = subst (λ p. p < 2 ^ (b.h + b.w)) (sym e) (set_of-low (b.h + b.w) (λ j. eqb j (c / b.w) || eqb j (b.h + c % b.w)));
   size = record { wide = refl; high = refl };
@@ -111,18 +111,12 @@ propagating_start b machines c p e long = record {
 abbrev pub propagating_measure : ℕ → ℕ → List ℕ → ℕ → ℕ
 propagating_measure w h cells p = size (take (w * h) cells) * suc (h + w) + length (members (h + w) p)
 
-module _ (b : Board) (machines : List Machine) (first : ℕ) (a : Board) (p : ℕ) (at : Propagating b machines first a p) (s : Sized b) where
+module _ {b : Board} {machines : List Machine} {first : ℕ} {a : Board} {p : ℕ} (at : Propagating b machines first a p) (s : Sized b) where
   abbrev state : Pending
   state = pending (take (b.w * b.h) a.cells) p
 
   lines_few : b.h + b.w ≤ 32
   lines_few = let x = s.low in let y = s.narrow in omega arith
-
-  pub propagating_sized : Sized a
-  propagating_sized =
-      let x = at.size.wide in
-      let y = at.size.high in
-      record { wide = rw x s.wide; narrow = rw x s.narrow; high = rw y s.high; low = rw y s.low }
 
   from_cell : (z : Puzzle) → Table z b.w b.h machines → (c : ℕ) → first ≡ cell_lines b.w b.h c → propagate z (board_of b) c ≡ propagate_on z state
   unfolding propagate cell_lines
@@ -144,8 +138,14 @@ module _ (b : Board) (machines : List Machine) (first : ℕ) (a : Board) (p : �
     pos : 0 < p
     pos = omega arith
 
-    pub propagating_low : lowest p < b.h + b.w
-    propagating_low = lowest_low 32 (b.h + b.w) p pos at.few lines_few
+    low : lowest p < b.h + b.w
+    low = lowest_low 32 (b.h + b.w) p pos at.few lines_few
+
+    pub propagating_low : Sized a × (lowest p < a.h + a.w)
+    propagating_low =
+        let x = at.size.wide in
+        let y = at.size.high in
+        (sized_as at.size s, rw (x, y) low)
 
     module _ {d : Board} where
       found : (r : Option ℕ) → Narrows a (lowest p) machines d r → (z : Puzzle) → Table z b.w b.h machines → Found z b.w b.h a.cells p d.cells r
@@ -168,7 +168,10 @@ module _ (b : Board) (machines : List Machine) (first : ℕ) (a : Board) (p : �
             from_cell z t c e ∙ propagate_stop z state q;
       }
 
-      module _ (gone : ℕ) (n : Narrows a (lowest p) machines d (Some gone)) where
+      module _ {gone : ℕ} (n : Narrows a (lowest p) machines d (Some gone)) where
+        pub propagating_narrowed : Sized d × (gone < 65536)
+        propagating_narrowed = let z = propagating_low.0 in (sized_as n.size z, cells_low a.w a.h (lowest p) gone z.narrow z.low propagating_low.1 n.few)
+
         abbrev later : ℕ
         later = pending_after b.h p gone
 
@@ -176,9 +179,9 @@ module _ (b : Board) (machines : List Machine) (first : ℕ) (a : Board) (p : �
         step z t = at_size t (λ w h. Found z w h a.cells p d.cells (Some gone) → propagate_step z (pending (take (w * h) a.cells) p) ≡ more (pending (take (w * h) d.cells) (pending_after h p gone)))
             (step_more z a.cells p d.cells gone) (found (Some gone) n z t)
 
-        module _ (woken : ℕ) (e : woken ≡ crossed d.h (lowest p) gone) where
+        module _ {woken : ℕ} (e : woken ≡ crossed d.h (lowest p) gone) where
           later_is : later ≡ pending_next p woken
-          later_is = sym (pending_after_lem b.h p gone woken (let x = propagating_low in let y = lines_few in omega arith)
+          later_is = sym (pending_after_lem b.h p gone woken (let x = low in let y = lines_few in omega arith)
               (e ∙ ap (λ h. crossed h (lowest p) gone) (n.size.high ∙ at.size.high)))
 
           pub propagating_turn : Propagating b machines first d (pending_next p woken)

@@ -40,9 +40,9 @@ pub record Ready (b : Board) (machines : List Machine) (i : ℕ) (l : Line) (old
   pub gathered : take l.len old ≡ map (λ c. get_or b.cells c 0) (places l)
   pub bytes : (j : ℕ) → get_or b.cells j 0 < 256
 
-pub line_reaches : (b : Board) (i : ℕ) {l : Line} → Sized b → i < b.h + b.w → length b.cells ≡ 256 → l ≡ line_at b.w b.h i → Reaches l (length b.cells)
-line_reaches b i s on long e =
-    subst (λ l. Reaches l (length b.cells)) (sym e) (reaches b.w b.h i (length b.cells) s.narrow s.low on (let f = few_cells b s in omega arith))
+pub line_reaches : {b : Board} {i : ℕ} {l : Line} → Sized b × (i < b.h + b.w) → length b.cells ≡ 256 → l ≡ line_at b.w b.h i → Reaches l (length b.cells)
+line_reaches {b} {i} s long e =
+    subst (λ l. Reaches l (length b.cells)) (sym e) (reaches b.w b.h i (length b.cells) s.0.narrow s.0.low s.1 (let f = few_cells b s.0 in omega arith))
 
 module _ {b : Board} {machines : List Machine} {i : ℕ} {l : Line} {old : List ℕ} (r : Ready b machines i l old) (d : Machine) where
   abbrev m : Machine

@@ -34,3 +34,9 @@ at_size {z} {w} {h} t P p = subst (λ w. P w h) t.wide (subst (P z.width) t.high
 -- and one at a board's size is one at the size of any board as large
 pub same_size : {a b : Board} → SameSize a b → (P : ℕ → ℕ → Type 0) → P b.w b.h → P a.w a.h
 same_size {a} {b} s P p = subst (λ w. P w a.h) s.wide (subst (P b.w) s.high p)
+
+pub sized_as : {a b : Board} → SameSize a b → Sized a → Sized b
+sized_as s z =
+    let x = s.wide in
+    let y = s.high in
+    record { wide = rw x z.wide; narrow = rw x z.narrow; high = rw y z.high; low = rw y z.low }

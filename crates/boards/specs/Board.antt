@@ -1,7 +1,5 @@
 -- A board by value, and the board of the rules that it stands for.
-use Rattle.std.specs.Prelude.{◌≡◌, not, ◌&&◌, List, ℕ, ◌*◌, ◌≤◌, take, set}
-use Rattle.rules.specs.Lists.{digit}
-use Rattle.rules.specs.Sets.{single}
+use Rattle.std.specs.Prelude.{◌≡◌, List, ℕ, ◌*◌, ◌≤◌, take, set}
 use Rattle.boards.specs.declared.board.Board.{Board}
 
 -- the first w·h cells of the array
@@ -24,7 +22,3 @@ with_cells b cells = record { w = b.w; h = b.h; cells = cells }
 
 abbrev pub with_cell : Board → ℕ → ℕ → Board
 with_cell b c s = with_cells b (set b.cells c s)
-
--- 1 if a cell whose set was a and is b is newly solved
-abbrev pub newly_digit : ℕ → ℕ → ℕ
-newly_digit a b = digit (not (single a) && single b)

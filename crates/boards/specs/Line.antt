@@ -1,6 +1,6 @@
 -- Where a line's cells stand in a board's array.
 use Rattle.std.specs.Prelude.{true, false, not, List, map, ℕ, ◌+◌, ◌-◌, ◌*◌, ◌≤◌, ◌<◌, eqb, ltb, get_or}
-use Rattle.rules.specs.Lists.{from, digit}
+use Rattle.rules.specs.Lists.{from}
 use Rattle.rules.specs.Sets.{set_of}
 use Rattle.boards.specs.declared.line.Line.{Line}
 
@@ -18,10 +18,6 @@ pub record Reaches (l : Line) (n : ℕ) : Type 0 where
   pub near : l.start ≤ 256
   pub close : l.stride ≤ 16
   pub inside : (j : ℕ) → j < l.len → l.start + j * l.stride < n
-
--- 1 if two sets differ
-abbrev pub differ_digit : ℕ → ℕ → ℕ
-differ_digit s t = digit (not (eqb s t))
 
 -- the set of those of n cells whose sets differ
 unfoldable pub differ_bits : List ℕ → List ℕ → ℕ → ℕ

@@ -1,8 +1,8 @@
 // A board, held by value as its size and a fixed array of 256 cell bytes: copied as a snapshot, and handed back by each operation.
-ghost use Rattle.std.specs.Prelude.{◌≡◌, ◌<◌, get_or, length};
-ghost use Rattle.rules.specs.Sets.{only, without};
+ghost use Rattle.std.specs.Prelude.{◌≡◌, ◌<◌, ◌&&◌, not, get_or, length};
+ghost use Rattle.rules.specs.Sets.{single, only, without};
 ghost use Rattle.rules.specs.Boards.{solved, newly};
-ghost use Rattle.boards.specs.Board.{board_of, Sized, SameSize, with_cells, with_cell, newly_digit};
+ghost use Rattle.boards.specs.Board.{board_of, Sized, SameSize, with_cells, with_cell};
 
 use cells::{CellNo, Colour};
 
@@ -19,8 +19,18 @@ impl Board {
     pub fn cell(self, c: CellNo) -> u8
         ensures { result ≡ get_or self.cells c.0 0 }
     {
-        let i = c.0 as usize;
-        if i < 256 { self.cells[i] } else { 0 }
+        self.cells.get(usize::from(c.0)).copied().unwrap_or(0)
+    }
+
+    // The cell gets this set; past the array there is none to get it.
+    fn with_cell(mut self, c: CellNo, s: u8) -> Board
+        ensures { result ≡ with_cell self c.0 s }
+    {
+        let i = usize::from(c.0);
+        if i < self.cells.len() {
+            self.cells[i] = s;
+        }
+        self
     }
 
     // The cell gets one colour.
@@ -28,13 +38,7 @@ impl Board {
         requires { x.0 < 8 }
         ensures { result ≡ with_cell self c.0 (only x.0) }
     {
-        let mut b = self;
-        let i = c.0 as usize;
-        let s = cells::only(x);
-        if i < 256 {
-            b.cells[i] = s;
-        }
-        b
+        self.with_cell(c, cells::only(x))
     }
 
     // The cell loses a colour.
@@ -42,13 +46,7 @@ impl Board {
         requires { x.0 < 8 }
         ensures { result ≡ with_cell self c.0 (without (get_or self.cells c.0 0) x.0) }
     {
-        let mut b = self;
-        let i = c.0 as usize;
-        let s = cells::without(b.cell(c), x);
-        if i < 256 {
-            b.cells[i] = s;
-        }
-        b
+        self.with_cell(c, cells::without(self.cell(c), x))
     }
 
     // The board as it was saved.
@@ -56,11 +54,7 @@ impl Board {
         ensures { result ≡ with_cells self saved.cells }
     {
         let cells = saved.cells;
-        Board {
-            w: self.w,
-            h: self.h,
-            cells: cells,
-        }
+        Board { cells, ..self }
     }
 
     // Whether all cells are solved.
@@ -68,26 +62,20 @@ impl Board {
         requires { Sized self }
         ensures { result ≡ solved (board_of self) }
     {
-        let n = self.w * self.h;
-        let mut i: usize = 0;
-        while i < n {
-            if !cells::is_solved(self.cells[i]) {
+        for &s in &self.cells[..self.w * self.h] {
+            if !cells::is_solved(s) {
                 return false;
             }
-            i += 1;
         }
         true
     }
 }
 
-// 1 if a cell is newly solved: its set was a and is b.
-fn newly_at(a: u8, b: u8) -> u16
-    ensures { result ≡ newly_digit a b }
+// Whether a cell is newly solved: its set was a and is b.
+fn is_new(a: u8, b: u8) -> bool
+    ensures { result ≡ (not (single a) && single b) }
 {
-    if cells::is_solved(a) {
-        return 0;
-    }
-    if cells::is_solved(b) { 1 } else { 0 }
+    !cells::is_solved(a) && cells::is_solved(b)
 }
 
 // How many cells are unsolved at the start and solved at the end.
@@ -96,11 +84,9 @@ pub fn newly_solved(start: Board, end: Board) -> u16
     ensures { result ≡ length (newly (board_of start) (board_of end)) }
 {
     let n = start.w * start.h;
-    let mut count: u16 = 0;
-    let mut i: usize = 0;
-    while i < n {
-        count += newly_at(start.cells[i], end.cells[i]);
-        i += 1;
+    let mut count = 0;
+    for (a, b) in start.cells[..n].iter().zip(&end.cells[..n]) {
+        count += u16::from(is_new(*a, *b));
     }
     count
 }

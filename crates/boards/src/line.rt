@@ -1,7 +1,7 @@
 // A row or a column: where its cells stand, read out of the board and written back.
 ghost use Rattle.std.specs.Prelude.{◌≡◌, map, ◌+◌, ◌≤◌, ◌<◌, get_or, length, take};
 ghost use Rattle.rules.specs.Propagation.{write};
-ghost use Rattle.boards.specs.Line.{line_at, places, Reaches, differ_bits, differ_digit};
+ghost use Rattle.boards.specs.Line.{line_at, places, Reaches, differ_bits};
 
 use rules::LARGEST_SIDE;
 
@@ -37,54 +37,35 @@ pub fn line_of(w: usize, h: usize, i: usize) -> Line
 }
 
 // The line's sets.
-pub fn gather(cells: &[u8], line: Line) -> [u8; 16]
+pub fn gather(cells: &[u8], line: Line) -> [u8; LARGEST_SIDE]
     requires { Reaches line (length cells.now) }
     ensures { take line.len result ≡ map (λ c. get_or cells.now c 0) (places line) }
 {
-    let mut sets = [0u8; 16];
-    let start = line.start;
-    let stride = line.stride;
-    let len = line.len;
-    let mut j: usize = 0;
-    while j < len {
-        sets[j] = cells[start + j * stride];
-        j += 1;
+    let mut sets = [0; LARGEST_SIDE];
+    for j in 0..line.len {
+        sets[j] = cells[line.start + j * line.stride];
     }
     sets
 }
 
 // The line's cells get these sets.
-pub fn scatter(cells: &mut [u8], line: Line, sets: [u8; 16])
+pub fn scatter(cells: &mut [u8], line: Line, sets: [u8; LARGEST_SIDE])
     requires { Reaches line (length cells.old) }
     ensures { cells.new ≡ write cells.old (places line) (take line.len sets) }
 {
-    let start = line.start;
-    let stride = line.stride;
-    let len = line.len;
-    let mut j: usize = 0;
-    while j < len {
-        cells[start + j * stride] = sets[j];
-        j += 1;
+    for j in 0..line.len {
+        cells[line.start + j * line.stride] = sets[j];
     }
 }
 
-// 1 if two sets differ.
-fn differ_at(a: u8, b: u8) -> u32
-    ensures { result ≡ differ_digit a b }
-{
-    if a == b { 0 } else { 1 }
-}
-
 // Bit j says that the sets of cell j differ.
-pub fn differing(old: [u8; 16], new: [u8; 16], len: usize) -> u32
+pub fn differing(old: [u8; LARGEST_SIDE], new: [u8; LARGEST_SIDE], len: usize) -> u32
     requires { len ≤ 16 }
     ensures { result ≡ differ_bits old new len }
 {
-    let mut bits: u32 = 0;
-    let mut j = len;
-    while j > 0 {
-        j -= 1;
-        bits = bits * 2 + differ_at(old[j], new[j]);
+    let mut bits = 0;
+    for j in 0..len {
+        bits |= u32::from(old[j] != new[j]) << j;
     }
     bits
 }

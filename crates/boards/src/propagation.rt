@@ -11,23 +11,24 @@ use crate::line::{LINES, differing, gather, line_of, scatter};
 use cells::CellNo;
 use lines::Machine;
 
-// The lines that the cells lost by line i make pending: columns by a row, rows by a column.
-fn woken(h: usize, i: usize, lost: u32) -> u32
-    requires { (h ≤ 16) × (lost < 65536) }
-    ensures { result ≡ crossed h i lost }
-{
-    if i < h { lost << (h as u32) } else { lost }
-}
-
-// A cell's row and column.
-fn first_pending(w: usize, h: usize, c: usize) -> u32
-    requires { (1 ≤ w) × ((w ≤ 16) × ((h ≤ 16) × (c < w * h))) }
-    ensures { result ≡ cell_lines w h c }
-{
-    (1u32 << ((c / w) as u32)) | (1u32 << ((h + c % w) as u32))
-}
-
 impl Board {
+    // The lines that the cells lost by line i make pending: columns by a row, rows by a column.
+    fn woken(&self, i: usize, lost: u32) -> u32
+        requires { Sized self.now × (lost < 65536) }
+        ensures { result ≡ crossed self.now.h i lost }
+    {
+        if i < self.h { lost << self.h } else { lost }
+    }
+
+    // A cell's row and column.
+    fn first_pending(&self, c: CellNo) -> u32
+        requires { Sized self.now × (c.0 < self.now.w * self.now.h) }
+        ensures { result ≡ cell_lines self.now.w self.now.h c.0 }
+    {
+        let c = usize::from(c.0);
+        (1 << (c / self.w)) | (1 << (self.h + c % self.w))
+    }
+
     // Line i is reduced, and bit j of what is answered says that its cell j lost a colour; or none, at a contradiction, and the board is as it was.
     fn reduce_on(&mut self, machines: &[Machine; LINES], i: usize) -> Option<u32>
         requires { Sized self.old × (i < self.old.h + self.old.w) }
@@ -56,12 +57,11 @@ impl Board {
         requires { Sized self × Playable self.w self.h machines.now × (c.0 < self.w * self.h) }
         ensures { Propagates self c.0 machines.now result }
     {
-        let mut pending = first_pending(self.w, self.h, c.0 as usize);
+        let mut pending = self.first_pending(c);
         while pending != 0 {
-            let low = u32::trailing_zeros(pending);
-            let i = low as usize;
+            let i = pending.trailing_zeros() as usize;
             let lost = self.reduce_on(machines, i)?;
-            pending = (pending & !(1u32 << low)) | woken(self.h, i, lost);
+            pending = (pending & !(1 << i)) | self.woken(i, lost);
         }
         Some(self)
     }

@@ -1,50 +1,31 @@
-use mathlib.Core.Path.{◌∙◌}
+use mathlib.Core.Path.{◌≡◌, sym, subst, ◌∙◌}
 use Prim.Native.Nat.{◌+◌, ◌*◌}
 use native.Mathlib.Omega.{arith}
-use Rattle.boards.proofs.Sizes.{board_cells, few_cells, board_length}
-use Rattle.boards.proofs.Counting.{Counted, counted_start, counted_turn, counted_end, new_digit}
+use lib.ListN.{length, take}
+use lib.Seq.{length-take-le}
+use Rattle.std.proofs.Common.{rules}
+use Rattle.std.proofs.lemmas.List.{length_push}
+use Rattle.std.proofs.lemmas.Slice.Zip.{zip_turn, zip_end}
+use Rattle.boards.specs.Board.{board_of}
+use Rattle.boards.proofs.Sizes.{few_cells, board_length}
+use Rattle.boards.proofs.Counting.{Counted, counted_turn, counted_end, new_at}
 use Rattle.boards.proofs.board.newly_solved.Goals as goal
-use Rattle.boards.proofs.board.newly_solved.Goals.{After-newly_at-count}
 
-pub overflow_mul-n : goal.overflow_mul-n
-overflow_mul-n c = record { fits = omega (arith, few_cells c.args.start c.requires.0) }
-
-pub loop-i-init : goal.loop-i-init
-loop-i-init c = counted_start c.args.start c.args.end _
-
-pub bounds-start-i : goal.bounds-start-i
-bounds-start-i c = omega (arith, few_cells c.args.start c.requires.0)
-
-pub bounds-end-i : goal.bounds-end-i
-bounds-end-i c = omega (arith, few_cells c.args.start c.requires.0)
-
-pub newly_at-count-requires : goal.newly_at-count-requires
-newly_at-count-requires c = tt
-
-turned : (c : After-newly_at-count) → Counted c.before.before.before.before.before.args.start c.before.before.before.before.before.args.end (c.before.before.before.before.before.args.start.w * c.before.before.before.before.before.args.start.h) (c.before.before.before.before.loop-i.count + c.newly_at-count.result) (c.before.before.before.before.loop-i.i + 1)
-turned c =
-    let a = c.before.before.before.before.before.args in
-    let l = c.before.before.before.before.loop-i in
-    let t = c.before.before.before.loop-i-test.true in
-    counted_turn a.start a.end _ l.count l.i c.newly_at-count.result l.invariant t
-    (c.newly_at-count.ensures ∙ new_digit a.start a.end l.i t c.before.before.before.before.before.requires.1)
-
-pub overflow_add-count : goal.overflow_add-count
-overflow_add-count c =
-    let z = few_cells c.args.start c.requires.0 in
-    omega (arith, (turned (goal.at.overflow_add-count c).After-newly_at-count).few, (turned (goal.at.overflow_add-count c).After-newly_at-count).upto)
-
-pub overflow_add-i : goal.overflow_add-i
-overflow_add-i c = omega (arith, few_cells c.args.start c.requires.0)
-
-pub loop-i-smaller : goal.loop-i-smaller
-loop-i-smaller c = omega arith
-
-pub loop-i-preserved : goal.loop-i-preserved
-loop-i-preserved c = turned (goal.at.loop-i-preserved c).After-newly_at-count
+pub loop-a-preserved : goal.loop-a-preserved
+loop-a-preserved c =
+    let a = c.args in
+    let l = c.loop-a in
+    let t = zip_turn (board_of a.start) (take (a.start.w * a.start.h) a.end.cells) l.yielded c.into_iter-a-iterator.result _ c.next.new.self _ (cc) (cc) l.yielded_by _ c.in-Some.is c.next.ensures.steps in
+    let n = board_length a.start c.requires.0 (search rules) in
+    subst (Counted a.start a.end (a.start.w * a.start.h) (l.count + c.from-count.result)) (sym (length_push l.yielded _))
+    (counted_turn a.start a.end _ l.count (length l.yielded) _ _ l.invariant (omega arith) c.from-count.ensures
+    (c.is_new.ensures ∙ new_at a.start a.end _ _ _ c.requires.1 (t.2 0) (t.3 0)))
 
 pub returns : goal.returns
 returns c =
     let a = c.args in
-    let l = c.loop-i in
-    counted_end a.start a.end l.count l.i l.invariant c.loop-i-test.false (board_length a.start c.requires.0 (board_cells a.start _ c.well_formed.0))
+    let l = c.loop-a in
+    let t = zip_end (board_of a.start) (take (a.start.w * a.start.h) a.end.cells) l.yielded c.into_iter-a-iterator.result _ c.next.new.self _ (cc) (cc) l.yielded_by c.in-None.is c.next.ensures.steps in
+    let n = board_length a.start c.requires.0 (search rules) in
+    let m : length (take (a.start.w * a.start.h) a.end.cells) ≡ a.start.w * a.start.h = length-take-le _ a.end.cells (let e : length a.end.cells ≡ 256 = search rules in let f = few_cells a.start c.requires.0 in omega arith) in
+    counted_end a.start a.end l.count (length l.yielded) l.invariant (omega arith) n

@@ -1,16 +1,7 @@
 -- A row starts at a multiple of the width; a column at its number.
 use mathlib.Core.Path.{sym}
-use Prim.Native.Nat.{◌≤◌}
-use native.Mathlib.Nat.{mul-le-mul}
-use native.Mathlib.Omega.{arith}
 use Rattle.boards.proofs.Places.{line_row, line_column}
 use Rattle.boards.proofs.line.line_of.Goals as goal
-
-pub overflow_mul-result : goal.overflow_mul-result
-overflow_mul-result c =
-    let p = c.requires in
-    let i : c.args.i ≤ 32 = omega arith in
-    record { fits = omega (arith, mul-le-mul i p.0) }
 
 pub returns-then-i-h : goal.returns-then-i-h
 returns-then-i-h c = sym (line_row _ _ _ c.if-i-h.true)

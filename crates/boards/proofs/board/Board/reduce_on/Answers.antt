@@ -8,21 +8,21 @@ use Rattle.boards.proofs.board.Board.reduce_on.Goals as goal
 use Rattle.boards.proofs.board.Board.reduce_on.Goals.{After-gather-old, After-reduce_by}
 
 pub gather-old-requires : goal.gather-old-requires
-gather-old-requires c = line_reaches c.args.self.now c.args.i c.requires.0 c.requires.1 (search rules) c.line_of-line.ensures
+gather-old-requires c = line_reaches c.requires (search rules) c.line_of-line.ensures
 
 pub slice_bounds-sets-end : goal.slice_bounds-sets-end
-slice_bounds-sets-end c = let few = (line_reaches c.args.self.now c.args.i c.requires.0 c.requires.1 (search rules) c.line_of-line.ensures).few in omega arith
+slice_bounds-sets-end c = let few = (line_reaches c.requires (search rules) c.line_of-line.ensures).few in omega arith
 
 pub slice_bounds-reduce_by-end : goal.slice_bounds-reduce_by-end
 slice_bounds-reduce_by-end c =
-    let few = (line_reaches c.args.self.now c.args.i c.requires.0 c.requires.1 (search rules) c.line_of-line.ensures).few in
+    let few = (line_reaches c.requires (search rules) c.line_of-line.ensures).few in
     sym (length-take-le c.line_of-line.result.len c.gather-old.result (omega arith))
 
 pub scatter-requires : goal.scatter-requires
-scatter-requires c = line_reaches c.args.self.now c.args.i c.requires.0 c.requires.1 (search rules) c.line_of-line.ensures
+scatter-requires c = line_reaches c.requires (search rules) c.line_of-line.ensures
 
 pub differing-requires : goal.differing-requires
-differing-requires c = (line_reaches c.args.self.now c.args.i c.requires.0 c.requires.1 (search rules) c.line_of-line.ensures).few
+differing-requires c = (line_reaches c.requires (search rules) c.line_of-line.ensures).few
 
 ready : (c : After-gather-old) → Ready c.args.self.now c.args.machines.now c.args.i c.line_of-line.result c.gather-old.result
 ready c = record {
