@@ -46,10 +46,10 @@ pub fn around(b: &Board, c: CellNo) -> ArrayVec<CellNo, 4>
 {
     let mut found = ArrayVec::new();
     for n in beside(b, c) {
-        if let Some(n) = n {
-            if !cells::is_solved(b.cell(n)) {
-                found.push(n);
-            }
+        if let Some(n) = n
+            && !cells::is_solved(b.cell(n))
+        {
+            found.push(n);
         }
     }
     found
