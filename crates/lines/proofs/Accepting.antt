@@ -18,7 +18,7 @@ use Rattle.rules.proofs.Lines.{blanks}
 use Rattle.rules.proofs.Stretches.{between_cases}
 use Rattle.rules.proofs.Sets.{bit_suc, bit_le, bit_none, bit_low, bit_up}
 use Rattle.lines.specs.declared.machine.Machine.{Machine}
-use Rattle.lines.specs.Machines.{raised, pushed, pushed_all, opened, machine}
+use Rattle.lines.specs.Machines.{raised, pushed, pushed_all, opened, machine, Coloured}
 use Rattle.lines.proofs.Masks.{bit_or_lem, bit_even, bit_twice}
 use Rattle.lines.proofs.Runs.{Run, stop, stay, go}
 
@@ -28,10 +28,6 @@ use Rattle.lines.proofs.Runs.{Run, stop, stay, go}
 abbrev pub Below : ℕ → List Colour → Type 0
 Below n [] = Unit {0}
 Below n (c ∷ cs) = (c < n) × Below n cs
-
-abbrev pub Coloured : Clue → Type 0
-Coloured [] = Unit {0}
-Coloured (b ∷ clue) = (b.colour < 8) × Coloured clue
 
 pub coloured : (k : ℕ) (clue : Clue) → k < 8 → regular k clue ≡ true → Coloured clue
 unfolding regular

@@ -6,10 +6,10 @@ use Prim.Native.Nat.{ℕ, zero, suc, ◌*◌, ◌/◌, ◌%◌, ◌^◌, ◌≤�
 use native.Mathlib.Omega.{arith}
 use lib.Arith.{bin_ind}
 use lib.ListN.{get_or}
-use lib.Bits.{bit_and, bit_or, and_shr, or_shr, and_step, or_step, or_zero_l}
+use lib.Bits.{bit_and, bit_or, and_shr, or_shr, and_step, or_step, or_zero_l, and_le_r}
 use Rattle.rules.specs.Sets.{bit, ◌∋◌}
 use Rattle.rules.proofs.Sets.{bit_zero, bit_suc, bit_le, bit_none, bit_low, bit_up}
-use Rattle.lines.specs.Machines.{pick, sign, goes, moves}
+use Rattle.lines.specs.Machines.{pick, sign, goes, able, moves}
 
 -- ## Bits
 
@@ -113,19 +113,6 @@ pub sign_of : (n : ℕ) → sign n ≡ 1 → (j : ℕ) × (n ∋ j)
 sign_of zero h = absurd (omega arith)
 sign_of (suc n) h = some_bit (suc n) (omega arith)
 
--- a digit of a digit is at most what it is picked by
-pub digit_le : (d n : ℕ) → pick d (sign n) ≤ d
-digit_le zero n = omega arith
-digit_le (suc d) n = omega (arith, sign_le n)
-
-digit_in : (d n j : ℕ) → d ≡ 1 → n ∋ j → pick d (sign n) ≡ 1
-digit_in zero n j h p = absurd (omega arith)
-digit_in (suc d) n j h p = sign_in n j p
-
-digit_of : (d n : ℕ) → d ≤ 1 → pick d (sign n) ≡ 1 → (d ≡ 1) × ((j : ℕ) × (n ∋ j))
-digit_of zero n h p = absurd (omega arith)
-digit_of (suc d) n h p = (omega arith, sign_of n p)
-
 -- ## What the colours of a set make of the masks
 
 -- a state is among those that the set goes on from if a colour of the set does
@@ -144,35 +131,32 @@ goes_of (x ∷ masks) s j h =
     (λ p. let r = goes_of masks (s / 2) j p in (suc r.0, bit_suc s r.0 ∙ r.1, r.2))
     (or_of (pick (s % 2) x) (goes masks (s / 2)) j h)
 
+-- a colour is able if one of its states is among them
+able_in : (masks : List ℕ) (states c j : ℕ) → get_or masks c 0 ∋ j → states ∋ j → able masks states ∋ c
+unfolding able
+able_in [] states c j q r = absurd (omega (arith, bit_none j))
+able_in (x ∷ masks) states zero j q r = bit_low (able masks states) (sign (bit_and x states)) (omega (arith, sign_le (bit_and x states))) ∙ sign_in (bit_and x states) j (and_in x states j q r)
+able_in (x ∷ masks) states (suc c) j q r = bit_up (able masks states) (sign (bit_and x states)) c (omega (arith, sign_le (bit_and x states))) ∙ able_in masks states c j q r
+
+able_of : (masks : List ℕ) (states c : ℕ) → able masks states ∋ c → (j : ℕ) × (get_or masks c 0 ∋ j) × (states ∋ j)
+unfolding able
+able_of [] states c h = absurd (omega (arith, bit_none c))
+able_of (x ∷ masks) states zero h =
+    let n = bit_and x states in
+    let r = sign_of n (sym (bit_low (able masks states) (sign n) (omega (arith, sign_le n))) ∙ h) in
+    let a = and_of x states r.0 r.1 in
+    (r.0, a.0, a.1)
+able_of (x ∷ masks) states (suc c) h = able_of masks states c (sym (bit_up (able masks states) (sign (bit_and x states)) c (omega (arith, sign_le (bit_and x states)))) ∙ h)
+
 pub moves_in : (masks : List ℕ) (s states c j : ℕ) → s ∋ c → get_or masks c 0 ∋ j → states ∋ j → moves masks s states ∋ c
 unfolding moves
-moves_in [] s states c j p q r = absurd (omega (arith, bit_none j))
-moves_in (x ∷ masks) s states zero j p q r =
-    let n = bit_and x states in
-    bit_low (moves masks (s / 2) states) (pick (s % 2) (sign n)) (omega (arith, digit_le (s % 2) n))
-    ∙ digit_in (s % 2) n j (sym (bit_zero s) ∙ p) (and_in x states j q r)
-moves_in (x ∷ masks) s states (suc c) j p q r =
-    let n = bit_and x states in
-    bit_up (moves masks (s / 2) states) (pick (s % 2) (sign n)) c (omega (arith, digit_le (s % 2) n))
-    ∙ moves_in masks (s / 2) states c j (sym (bit_suc s c) ∙ p) q r
+moves_in masks s states c j p q r = and_in (able masks states) s c (able_in masks states c j q r) p
 
 pub moves_of : (masks : List ℕ) (s states c : ℕ) → moves masks s states ∋ c → (s ∋ c) × ((j : ℕ) × (get_or masks c 0 ∋ j) × (states ∋ j))
 unfolding moves
-moves_of [] s states c h = absurd (omega (arith, bit_none c))
-moves_of (x ∷ masks) s states zero h =
-    let n = bit_and x states in
-    let e = bit_low (moves masks (s / 2) states) (pick (s % 2) (sign n)) (omega (arith, digit_le (s % 2) n)) in
-    let r = digit_of (s % 2) n (omega arith) (sym e ∙ h) in
-    let a = and_of x states r.1.0 r.1.1 in
-    (bit_zero s ∙ r.0, (r.1.0, a.0, a.1))
-moves_of (x ∷ masks) s states (suc c) h =
-    let n = bit_and x states in
-    let e = bit_up (moves masks (s / 2) states) (pick (s % 2) (sign n)) c (omega (arith, digit_le (s % 2) n)) in
-    let r = moves_of masks (s / 2) states c (sym e ∙ h) in
-    (bit_suc s c ∙ r.0, r.1)
+moves_of masks s states c h = let a = and_of (able masks states) s c h in (a.1, able_of masks states c a.0)
 
 -- the colours that move are of the set
 pub moves_le : (masks : List ℕ) (s states : ℕ) → moves masks s states ≤ s
 unfolding moves
-moves_le [] s states = omega arith
-moves_le (x ∷ masks) s states = omega (arith, moves_le masks (s / 2) states, digit_le (s % 2) (bit_and x states))
+moves_le masks s states = and_le_r (able masks states) s

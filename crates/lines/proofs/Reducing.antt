@@ -16,10 +16,10 @@ use Rattle.rules.proofs.Tests.{on_test}
 use Rattle.rules.proofs.Sets.{bit_zero}
 use Rattle.rules.proofs.Lines.{from_length, Bytes, BytesIn, reduces_is}
 use Rattle.lines.specs.declared.machine.Machine.{Machine}
-use Rattle.lines.specs.Machines.{sign, stays, goes, before, moves, keeps, ends, kept, after, reduce_by, machine, closed, need, machine_of}
+use Rattle.lines.specs.Machines.{sign, stays, goes, before, moves, keeps, ends, kept, after, reduce_by, machine, closed, need, machine_of, Coloured}
 use Rattle.lines.proofs.Masks.{bit_digit, digit_only, sign_le, moves_le}
 use Rattle.lines.proofs.Runs.{Run, ends_in, ends_of, kept_in, kept_of, kept_length}
-use Rattle.lines.proofs.Accepting.{Coloured, coloured, meets_run, run_meets}
+use Rattle.lines.proofs.Accepting.{coloured, meets_run, run_meets}
 
 -- ## The clue's machine
 

@@ -1,11 +1,11 @@
 -- Worked examples that antt computes: machines of clues, and what they make of lines.
 use Rattle.std.specs.Prelude.{◌≡◌, refl, [], ◌∷◌}
 use Rattle.std.proofs.Math.Option.{none, some}
-use Rattle.lines.specs.Machines.{goes, before, after, moves, keeps, ends, kept, reduce_by, pushed, pushed_all, opened, machine, closed, need, machine_of, clue_in}
+use Rattle.lines.specs.Machines.{goes, before, after, able, moves, keeps, ends, kept, reduce_by, pushed, pushed_all, opened, machine, closed, need, machine_of, clue_in}
 
 -- what unfolds where an example is computed
 unfoldable computed : Unit {0}
-unfolding goes before after moves keeps ends kept reduce_by pushed pushed_all opened machine need machine_of clue_in
+unfolding goes before after able moves keeps ends kept reduce_by pushed pushed_all opened machine need machine_of clue_in
 computed = tt
 
 -- One block of 3 cells of colour 1. Colour 1 goes on from states 0, 1 and 2, which is the mask 7; a blank may stay at states 0 and 3, the mask 9; the line ends at state 3, the mask 8.

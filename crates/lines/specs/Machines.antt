@@ -38,10 +38,14 @@ before m s to = bit_or (bit_and (stays m s) to) (bit_and (goes m.by s) (to / 2))
 unfoldable pub after : Machine → ℕ → ℕ → ℕ
 after m s from = bit_or (bit_and (stays m s) from) (bit_and (goes m.by s) from * 2)
 
--- the set of the colours of s that go on from one of these states
+-- the set of the colours that go on from one of these states
+unfoldable pub able : List ℕ → ℕ → ℕ
+able [] states = 0
+able (p ∷ masks) states = sign (bit_and p states) + 2 * able masks states
+
+-- those of the set s
 unfoldable pub moves : List ℕ → ℕ → ℕ → ℕ
-moves [] s states = 0
-moves (p ∷ masks) s states = pick (s % 2) (sign (bit_and p states)) + 2 * moves masks (s / 2) states
+moves masks s states = bit_and (able masks states) s
 
 -- the set of the colours of s that lead from a state of `from` to one of `to`, a blank that stays among them
 unfoldable pub keeps : Machine → ℕ → ℕ → ℕ → ℕ
@@ -102,6 +106,11 @@ need (b ∷ clue) = b.cells + (length (between b clue) + need clue)
 unfoldable pub machine_of : Clue → Machine
 machine_of clue = elim (leb (need clue) 16) [ true ↦ machine clue | false ↦ closed ]
 
+-- every colour of the clue has a mask
+abbrev pub Coloured : Clue → Type 0
+Coloured [] = Unit {0}
+Coloured (b ∷ clue) = (b.colour < 8) × Coloured clue
+
 -- the masks have no state from n on; a blank may stay at state n, and a line may end there
 pub record Room (n : ℕ) (m : Machine) : Type 0 where
   pub masks : (c : ℕ) → get_or m.by c 0 < 2 ^ n
@@ -116,13 +125,13 @@ clue_in [] = []
 clue_in (c ∷ []) = []
 clue_in (c ∷ n ∷ bytes) = record { colour = c; cells = n } ∷ clue_in bytes
 
--- its block i
-abbrev pub block_in : List ℕ → ℕ → Block
-block_in bytes i = record { colour = get_or bytes (2 * i) 0; cells = get_or bytes (2 * i + 1) 0 }
+-- its first block
+abbrev pub first_in : List ℕ → Block
+first_in bytes = record { colour = get_or bytes 0 0; cells = get_or bytes 1 0 }
 
--- its blocks from block j on
-abbrev pub rest_in : List ℕ → ℕ → Clue
-rest_in bytes j = clue_in (drop (2 * j) bytes)
+-- the blocks after it
+abbrev pub rest_in : List ℕ → Clue
+rest_in bytes = clue_in (drop 2 bytes)
 
 -- pairs of a clue that the layout allows, with as many colours as a byte has room for
 abbrev pub Legal : List ℕ → Type 0

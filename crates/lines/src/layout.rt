@@ -35,6 +35,7 @@ fn read_pairs(k: usize, bytes: &[u8], at: usize, n: usize) -> Option<usize>
 }
 
 // The layout of one line, from `at` on: before which byte the line ends, or none where it is broken.
+#[tactic(auto, using(crate::proofs::Reading::line_missing, crate::proofs::Reading::line_long, crate::proofs::Reading::line_pairs))]
 pub fn read_line(k: usize, bytes: &[u8], at: usize) -> Option<usize>
     ensures { result ≡ line_read (length bytes.now) (read_line k (drop at bytes.now)) }
 {
@@ -46,6 +47,7 @@ pub fn read_line(k: usize, bytes: &[u8], at: usize) -> Option<usize>
 }
 
 // A cell that may be given: some bit is set, and none above `k`.
+#[tactic(auto, unfolding(rules::specs::Sets::proper))]
 fn proper(k: usize, s: u8) -> bool
     requires { k ≤ 7 }
     ensures { result ≡ proper k s }

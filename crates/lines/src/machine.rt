@@ -1,7 +1,7 @@
 // The machine of a clue, which reduces lines: built once for each line of a puzzle, and kept.
-ghost use Rattle.std.specs.Prelude.{◌≡◌, [], ◌-◌, ◌/◌, ◌≤◌, ◌<◌, length, replicate};
+ghost use Rattle.std.specs.Prelude.{◌≡◌, [], ◌-◌, ◌*◌, ◌≤◌, ◌<◌, length, replicate};
 ghost use Rattle.rules.specs.Lines.{between};
-ghost use Rattle.lines.specs.Machines.{pushed, pushed_all, machine, closed, need, machine_of, Room, clue_in, block_in, rest_in, Legal};
+ghost use Rattle.lines.specs.Machines.{pushed, pushed_all, machine, closed, need, machine_of, Room, clue_in, first_in, rest_in, Legal, Coloured};
 
 use rules::{COLOURS, LARGEST_SIDE};
 
@@ -14,6 +14,7 @@ pub struct Machine {
 }
 
 // The machine of no blocks: blanks alone.
+#[tactic(auto, unfolding(crate::specs::Machines::machine))]
 fn empty() -> Machine
     ensures { result ≡ machine [] }
 {
@@ -40,85 +41,77 @@ fn push(m: Machine, c: usize) -> Machine
     requires { (c < 8) × Room 16 m }
     ensures { result ≡ pushed c m }
 {
-    let mut by = m.by;
-    let mut i: usize = 0;
-    while i < COLOURS {
-        by[i] = by[i] * 2;
-        i += 1;
-    }
-    by[c] = by[c] + 1;
+    let mut by = m.by.map(|p| p << 1);
+    by[c] += 1;
     Machine {
-        by: by,
-        gap: m.gap * 2,
-        last: m.last * 2,
+        by,
+        gap: m.gap << 1,
+        last: m.last << 1,
     }
 }
 
 // The machine that wants `n` cells of the colour `c` first.
-fn push_all(m: Machine, c: usize, n: usize) -> Machine
+#[tactic(auto, unfolding(crate::specs::Machines::pushed_all))]
+fn push_all(mut m: Machine, c: usize, n: usize) -> Machine
     requires { (c < 8) × (n ≤ 16) × Room (16 - n) m }
     ensures { result ≡ pushed_all (replicate n c) m }
 {
-    let mut r = m;
-    let mut k: usize = 0;
-    while k < n {
-        r = push(r, c);
-        k += 1;
-    }
-    r
-}
-
-// THE ONE PLACE where a blank is asked between two blocks: how many must stand between block j - 1 and the rest. One, if block j has the same colour.
-fn blanks_between(pairs: &[u8], j: usize) -> usize
-    requires { (0 < j) × (j ≤ length pairs.now / 2) }
-    ensures { replicate result 0 ≡ between (block_in pairs.now (j - 1)) (rest_in pairs.now j) }
-{
-    if j == pairs.len() / 2 {
-        return 0;
-    }
-    let here = pairs[2 * (j - 1)];
-    let next = pairs[2 * j];
-    if here == next { 1 } else { 0 }
-}
-
-// The fewest cells that the clue needs.
-fn need(pairs: &[u8]) -> usize
-    requires { Legal pairs.now }
-    ensures { result ≡ need (clue_in pairs.now) }
-{
-    let mut cells: usize = 0;
-    let mut j = pairs.len() / 2;
-    while j > 0 {
-        let blanks = blanks_between(pairs, j);
-        j -= 1;
-        cells += blanks + pairs[2 * j + 1] as usize;
-    }
-    cells
-}
-
-// The machine of a clue that fits some line.
-fn build(pairs: &[u8]) -> Machine
-    requires { Legal pairs.now × (need (clue_in pairs.now) ≤ 16) }
-    ensures { result ≡ machine (clue_in pairs.now) }
-{
-    let mut m = empty();
-    let mut j = pairs.len() / 2;
-    while j > 0 {
-        m = push_all(m, 0, blanks_between(pairs, j));
-        j -= 1;
-        m = push_all(m, pairs[2 * j] as usize, pairs[2 * j + 1] as usize);
-        m.gap = m.gap | 1;
+    for _ in 0..n {
+        m = push(m, c);
     }
     m
 }
 
+// THE ONE PLACE where a blank is asked between two blocks: how many must stand between the first block and the rest. One, if the second has the same colour.
+#[tactic(auto, using(crate::proofs::Building::blanks_none, crate::proofs::Building::blanks_some))]
+fn blanks_between(pairs: &[u8]) -> usize
+    requires { 2 ≤ length pairs.now }
+    ensures { replicate result 0 ≡ between (first_in pairs.now) (rest_in pairs.now) }
+{
+    match pairs {
+        [here, _, next, _, ..] => usize::from(here == next),
+        _ => 0,
+    }
+}
+
+// The fewest cells that the clue needs.
+fn need(pairs: &[u8]) -> usize
+    requires { length pairs.now ≤ 33 }
+    ensures { (result ≡ need (clue_in pairs.now)) × (result ≤ 256 * length pairs.now) }
+{
+    match pairs {
+        [_, cells, rest @ ..] => usize::from(*cells) + blanks_between(pairs) + need(rest),
+        _ => 0,
+    }
+}
+
+// The machine of a clue that fits some line.
+fn build(pairs: &[u8]) -> Machine
+    requires { Coloured (clue_in pairs.now) × (need (clue_in pairs.now) ≤ 16) }
+    ensures { result ≡ machine (clue_in pairs.now) }
+{
+    match pairs {
+        [colour, cells, rest @ ..] => {
+            let m = push_all(build(rest), 0, blanks_between(pairs));
+            let m = push_all(m, usize::from(*colour), usize::from(*cells));
+            Machine {
+                gap: m.gap | 1,
+                ..m
+            }
+        }
+        _ => empty(),
+    }
+}
+
 // The machine of the clue that pairs of colour and length mean.
+#[tactic(auto, using(crate::proofs::Building::legal_pairs), unfolding(crate::specs::Machines::machine_of))]
 pub fn machine_of(pairs: &[u8]) -> Machine
     requires { Legal pairs.now }
     ensures { result ≡ machine_of (clue_in pairs.now) }
 {
     if need(pairs) <= LARGEST_SIDE {
-        return build(pairs);
+        build(pairs)
+    } else {
+        closed()
     }
-    closed()
 }

@@ -6,38 +6,41 @@ ghost use Rattle.lines.specs.Ways.{WaysOf};
 use crate::machine::Machine;
 use rules::LARGEST_SIDE;
 
-// For each cell the states that its colours go on from, and for each cell and the end those that lead on to the end.
+// What a cell is reduced by: the states that its colours go on from, and those behind it that lead on to the end.
+#[derive(Clone, Copy)]
+struct Way {
+    goes: u32,
+    ends: u32,
+}
+
+// The way of each cell, and the states before the first that lead on to the end.
 #[derive(Clone, Copy)]
 struct Ways {
-    goes: [u32; LARGEST_SIDE],
-    ends: [u32; LARGEST_SIDE + 1],
+    cells: [Way; LARGEST_SIDE],
+    start: u32,
 }
 
 // `p` if `s` is odd, as a set with blank is, and 0 if not. A product and no branch, which the processor could not foresee.
 fn pick(s: u8, p: u32) -> u32
     ensures { result ≡ pick (s % 2) p }
 {
-    p * ((s % 2) as u32)
+    p * u32::from(s % 2)
 }
 
 // 0 for 0, and 1 for any other number.
 fn sign(x: u32) -> u8
     ensures { result ≡ sign x }
 {
-    if x == 0 { 0 } else { 1 }
+    u8::from(x != 0)
 }
 
-// The states that a colour of the set `s` goes on from.
+// The states that a colour of the set `s` goes on from. All masks in turn, and no test of how many colours are left, which the processor could not foresee.
 fn goes(m: Machine, s: u8) -> u32
     ensures { result ≡ goes m.by s }
 {
-    let mut states: u32 = 0;
-    let mut c: usize = 0;
-    let mut rest = s;
-    while rest > 0 {
-        states = states | pick(rest, m.by[c]);
-        rest = rest / 2;
-        c += 1;
+    let mut states = 0;
+    for (c, p) in m.by.iter().enumerate() {
+        states |= pick(s >> c, *p);
     }
     states
 }
@@ -46,20 +49,15 @@ fn goes(m: Machine, s: u8) -> u32
 fn moves(m: Machine, s: u8, states: u32) -> u8
     ensures { result ≡ moves m.by s states }
 {
-    let mut out: u32 = 0;
-    let mut c: usize = 0;
-    let mut rest = s;
-    let mut weight: u32 = 1;
-    while rest > 0 {
-        out = out + pick(sign(m.by[c] & states), pick(rest, weight));
-        rest = rest / 2;
-        weight = weight * 2;
-        c += 1;
+    let mut able = 0;
+    for (c, p) in m.by.iter().enumerate() {
+        able |= sign(p & states) << c;
     }
-    out as u8
+    able & s
 }
 
 // The set of the colours of `s` that lead from a state of `from` to one of `to`, a blank that stays among them.
+#[tactic(auto, unfolding(crate::specs::Machines::keeps))]
 fn keeps(m: Machine, s: u8, from: u32, to: u32) -> u8
     ensures { result ≡ keeps m s from to }
 {
@@ -71,23 +69,18 @@ fn backwards(m: Machine, sets: &[u8]) -> Ways
     requires { length sets.now ≤ 16 }
     ensures { WaysOf m sets.now result }
 {
-    let mut all_goes = [0u32; LARGEST_SIDE];
-    let mut all_ends = [0u32; LARGEST_SIDE + 1];
-    let mut i = sets.len();
+    let mut cells = [Way { goes: 0, ends: 0 }; LARGEST_SIDE];
     let mut to = m.last;
-    all_ends[i] = to;
-    while i > 0 {
-        i -= 1;
+    for i in (0..sets.len()).rev() {
         let s = sets[i];
-        let go = goes(m, s);
-        to = (pick(s, m.gap) & to) | (go & (to / 2));
-        all_goes[i] = go;
-        all_ends[i] = to;
+        let way = Way {
+            goes: goes(m, s),
+            ends: to,
+        };
+        to = (pick(s, m.gap) & to) | (way.goes & (to / 2));
+        cells[i] = way;
     }
-    Ways {
-        goes: all_goes,
-        ends: all_ends,
-    }
+    Ways { cells, start: to }
 }
 
 // Each cell of the line keeps its colours that lead from a state that the line can be in to one that leads on to the end.
@@ -95,23 +88,23 @@ fn forwards(m: Machine, w: Ways, line: &mut [u8])
     requires { (length line.old ≤ 16) × WaysOf m line.old w }
     ensures { line.new ≡ kept m 1 line.old }
 {
-    let mut from: u32 = 1;
-    let mut i: usize = 0;
-    while i < line.len() {
-        let s = line[i];
-        line[i] = keeps(m, s, from, w.ends[i + 1]);
-        from = (pick(s, m.gap) & from) | ((w.goes[i] & from) * 2);
-        i += 1;
+    let mut from = 1;
+    for (i, cell) in line.iter_mut().enumerate() {
+        let s = *cell;
+        let way = w.cells[i];
+        *cell = keeps(m, s, from, way.ends);
+        from = (pick(s, m.gap) & from) | ((way.goes & from) * 2);
     }
 }
 
 // Reduces the line by the machine and answers true; or answers false, where the machine accepts no line of the sets, and leaves it as it was.
+#[tactic(auto, unfolding(crate::specs::Machines::reduce_by))]
 pub fn reduce_by(m: Machine, line: &mut [u8]) -> bool
     requires { length line.old ≤ 16 }
     ensures { Became (reduce_by m line.old) line.old result line.new }
 {
     let w = backwards(m, line);
-    if w.ends[0] % 2 == 1 {
+    if w.start % 2 == 1 {
         forwards(m, w, line);
         return true;
     }

@@ -1,32 +1,12 @@
-use mathlib.Core.Path.{refl}
-use native.Mathlib.Omega.{arith}
-use Rattle.lines.proofs.Building.{mask_is, mask_again, masks_over, raised_at, pushed_is}
-use borrow.Author.Rules.{rules}
+-- Each mask has room to be raised, and that of c then has state 0 too.
+use Rattle.std.proofs.Common.{◌≡◌, ◌%◌, ◌*◌, ◌<◌, ℕ, length, get_or, rules, arith}
+use Rattle.lines.proofs.Building.{raised_is, pushed_is}
 use Rattle.lines.proofs.machine.push.Goals as goal
-
-pub loop-i-init : goal.loop-i-init
-loop-i-init c = (omega arith, refl)
-
-pub overflow_mul-by : goal.overflow_mul-by
-overflow_mul-by c =
-    let l = c.loop-i in
-    omega (arith, mask_is l.by c.args.m.by l.i l.invariant.1, c.requires.1.masks l.i)
-
-pub loop-i-preserved : goal.loop-i-preserved
-loop-i-preserved c = (omega arith, mask_again c.loop-i.by c.args.m.by c.loop-i.i c.loop-i.invariant.1)
-
-pub overflow_add-by : goal.overflow_add-by
-overflow_add-by c =
-    let l = c.loop-i in
-    omega (arith, raised_at l.by c.args.m.by c.args.c (masks_over l.by c.args.m.by l.i (search rules) (omega arith) l.invariant.1), c.requires.1.masks c.args.c)
-
-pub overflow_mul-result : goal.overflow_mul-result
-overflow_mul-result c = omega (arith, c.requires.1.gaps)
-
-pub overflow_mul-result-2 : goal.overflow_mul-result-2
-overflow_mul-result-2 c = omega (arith, c.requires.1.lasts)
 
 pub returns : goal.returns
 returns c =
-    let l = c.loop-i in
-    pushed_is c.args.m l.by c.args.c (masks_over l.by c.args.m.by l.i (search rules) (omega arith) l.invariant.1)
+    let m = c.args.m in
+    let each : (i : ℕ) → i < length m.by → get_or c.map-by.result i 0 ≡ get_or m.by i 0 * 2 = λ i h. let w = (c.map-by.ensures.items.at i 0 0 (search rules)).2 in search rules in
+    let gap : m.gap * 2 % 4294967296 ≡ m.gap * 2 = omega (arith, c.requires.1.gaps) in
+    let last : m.last * 2 % 4294967296 ≡ m.last * 2 = omega (arith, c.requires.1.lasts) in
+    rw (gap, last) (pushed_is m c.map-by.result c.args.c (raised_is m.by c.map-by.result (search rules) each))
