@@ -1,10 +1,9 @@
 -- A quotient of 0 or 1 is the definition's root of itself (`short_root`). Any other times 2 ^ 54 is a whole number, `digits` gives its root, and the doubled root with its last digit, rounded and
 -- divided, is the definition's root (`root_found`). That root is the nearest (`quotient_nearest`).
-use Rattle.std.proofs.Common.{◌≡◌, ℕ, ◌+◌, ◌*◌, ◌^◌, ◌≤◌, sym, ap, ◌∙◌, subst, inl, inr, arith, le→leb}
-use lib.Ieee.{Float, binary64, div, in_float, of_bits, of_int}
+use Rattle.std.proofs.Common.{◌≡◌, ℕ, ◌+◌, ◌*◌, ◌≤◌, sym, ap, ◌∙◌, subst, inl, inr, arith}
+use lib.Ieee.{Float, binary64, div, of_bits, of_int}
 use Rattle.rules.specs.Floats.{float, quotient, root}
 use Rattle.rules.specs.Roots.{Nearest}
-use Rattle.rules.proofs.Roots.{sticky_le}
 use Rattle.rules.proofs.Rates.{quotient_nearest}
 use Rattle.rates.proofs.Scaled.{power, units_few, units_whole, root_found}
 use Rattle.rates.proofs.Short.{short_root}
@@ -14,10 +13,6 @@ use Rattle.rates.proofs.roots.root.Goals.{then-quotient-via-then-quotient, then-
 -- the definition's root is also the nearest
 both : (max min : ℕ) {r : Float} → max ≤ 255 → min ≤ max → r ≡ root (quotient max min) → (r ≡ root (quotient max min)) × Nearest (quotient max min) r
 both max min few in_order is = (is, subst (Nearest (quotient max min)) (sym is) (quotient_nearest max min few in_order))
-
-pub int_to_float-quotient-2 : goal.int_to_float-quotient-2
-unfolding in_float
-int_to_float-quotient-2 c = le→leb (c.args.min + 1) (2 ^ 53) (omega arith)
 
 pub returns-then-quotient : goal.returns-then-quotient
 unfolding of_bits of_int
@@ -40,9 +35,6 @@ unfolding of_bits
 digits-found-requires c =
     let few : c.args.max ≤ 255 = omega arith in
     omega (arith, c.truncating_f64_to_u64-units.ensures ∙ (units_whole c.args.max c.args.min few c.requires).is, units_few c.args.max c.args.min few c.requires)
-
-pub overflow_add-doubled : goal.overflow_add-doubled
-overflow_add-doubled c = omega (arith, sticky_le c.digits-found.result.rest)
 
 pub returns : goal.returns
 unfolding of_bits
