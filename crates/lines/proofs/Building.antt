@@ -114,15 +114,19 @@ blanks_some bytes h =
     parted true = refl
     parted false = refl
 
+pub need_none : need [] ≡ 0
+unfolding need
+need_none = refl
+
+pub need_some : (bytes : List ℕ) → 2 ≤ length bytes → need (clue_in bytes) ≡ get_or bytes 1 0 + (length (between (first_in bytes) (rest_in bytes)) + need (clue_in (take (length bytes - 2) (drop 2 bytes))))
+unfolding need
+need_some bytes some = omega (arith, ap need (clue_some bytes some), ap need (rest_is bytes))
+
 -- ## One block
 
 module _ (bytes : List ℕ) (some : 2 ≤ length bytes) (blanks : ℕ) (parting : replicate blanks 0 ≡ between (first_in bytes) (rest_in bytes)) where
-  pub few_blanks : blanks ≤ 1
-  few_blanks = let w = between_blanks (first_in bytes) (rest_in bytes) in omega (arith, ap length (parting ∙ w.2), length-replicate {A = ℕ} blanks 0, length-replicate {A = ℕ} w.0 0)
-
-  pub need_some : get_or bytes 1 0 + blanks + need (rest_in bytes) ≡ need (clue_in bytes)
-  unfolding need
-  need_some = omega (arith, ap need (clue_some bytes some), ap length parting, length-replicate {A = ℕ} blanks 0)
+  fits : get_or bytes 1 0 + blanks + need (rest_in bytes) ≡ need (clue_in bytes)
+  fits = omega (arith, need_some bytes some, ap need (rest_is bytes), ap length parting, length-replicate {A = ℕ} blanks 0)
 
   module _ (m : Machine) (is : m ≡ machine (rest_in bytes)) (ok : Coloured (clue_in bytes)) (short : need (clue_in bytes) ≤ 16) where
     colours : (get_or bytes 0 0 < 8) × Coloured (rest_in bytes)
@@ -132,14 +136,14 @@ module _ (bytes : List ℕ) (some : 2 ≤ length bytes) (blanks : ℕ) (parting 
     room = subst (Room (need (rest_in bytes))) (sym is) (room_machine (rest_in bytes) colours.1)
 
     pub blanks_room : (blanks ≤ 16) × Room (16 - blanks) m
-    blanks_room = (omega (arith, need_some), room_more (need (rest_in bytes)) (16 - blanks) m (omega (arith, need_some)) room)
+    blanks_room = (omega (arith, fits), room_more (need (rest_in bytes)) (16 - blanks) m (omega (arith, fits)) room)
 
     module _ (q : Machine) (parted : q ≡ pushed_all (replicate blanks 0) m) where
       pub block_room : (get_or bytes 0 0 < 8) × (get_or bytes 1 0 ≤ 16) × Room (16 - get_or bytes 1 0) q
       block_room = (
         colours.0,
-        omega (arith, need_some),
-        room_more (blanks + need (rest_in bytes)) (16 - get_or bytes 1 0) q (omega (arith, need_some))
+        omega (arith, fits),
+        room_more (blanks + need (rest_in bytes)) (16 - get_or bytes 1 0) q (omega (arith, fits))
             (subst (Room (blanks + need (rest_in bytes))) (sym parted) (room_all (need (rest_in bytes)) blanks m 0 (omega (arith, ap (λ x. length x.by) is, machine_long (rest_in bytes))) room)),
       )
 

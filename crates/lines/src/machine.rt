@@ -75,9 +75,11 @@ fn blanks_between(pairs: &[u8]) -> usize
 }
 
 // The fewest cells that the clue needs.
+#[tactic(auto, using(crate::proofs::Building::clue_none, crate::proofs::Building::need_none))]
 fn need(pairs: &[u8]) -> usize
     requires { length pairs.now ≤ 33 }
-    ensures { (result ≡ need (clue_in pairs.now)) × (result ≤ 256 * length pairs.now) }
+    ensures fewest { result ≡ need (clue_in pairs.now) }
+    ensures few { result ≤ 256 * length pairs.now }
 {
     match pairs {
         [_, cells, rest @ ..] => usize::from(*cells) + blanks_between(pairs) + need(rest),
