@@ -1,10 +1,10 @@
 // A cell's unsolved neighbours: finding them, and pushing them.
-ghost use Rattle.std.specs.Prelude.{◌≡◌, map, not, ◌&&◌, ◌+◌, ◌-◌, ◌*◌, ◌/◌, ◌%◌, ◌≤◌, ◌<◌, length, get_or, leb, ltb};
+ghost use Rattle.std.specs.Prelude.{◌≡◌, map, not, ◌&&◌, ◌*◌, ◌≤◌, ◌<◌};
 ghost use Rattle.rules.specs.Lists.{joined};
 ghost use Rattle.rules.specs.Sets.{single};
 ghost use Rattle.rules.specs.Boards.{Puzzle, newly, beside, around};
 ghost use Rattle.rules.specs.Floats.{float};
-ghost use Rattle.rules.specs.Probing.{push_all, push_around, push_both};
+ghost use Rattle.rules.specs.Probing.{push_around, push_both};
 ghost use Rattle.cells.specs.Numbers.{cell_numbers};
 ghost use Rattle.boards.specs.Board.{board_of, Sized, SameSize};
 ghost use Rattle.queues.specs.Entries.{queue_of, Holds};
@@ -14,6 +14,7 @@ use arrayvec::ArrayVec;
 use boards::Board;
 use cells::CellNo;
 use queues::Queue;
+use rules::LARGEST_SIDE;
 
 // The priorities with which neighbours are pushed.
 const NEIGHBOUR_OF_NEWLY_SOLVED: f64 = 10.0;
@@ -21,7 +22,7 @@ const NEIGHBOUR_OF_NEWLY_SOLVED: f64 = 10.0;
 const NEIGHBOUR_OF_CONTRADICTION: f64 = 20.0;
 
 // At most four neighbours of each of at most 256 cells.
-const MOST_FOUND: usize = 1024;
+const MOST_FOUND: usize = 4 * LARGEST_SIDE * LARGEST_SIDE;
 
 // The cells above a cell, to the left, to the right and below, each where there is one.
 fn beside(b: &Board, c: CellNo) -> [Option<CellNo>; 4]
