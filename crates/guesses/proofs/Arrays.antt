@@ -1,8 +1,9 @@
 -- How the arrays of the waiting guesses follow the rules' list: taking the next guess, and putting one before the others.
-use mathlib.Core.Path.{◌≡◌, sym, ap, ap₂, ◌∙◌}
-use mathlib.Core.Bool.{Bool}
+use mathlib.Core.Path.{◌≡◌, refl, sym, ap, ap₂, ◌∙◌}
+use mathlib.Core.Bool.{Bool, ◌||◌}
 use mathlib.Core.List.{List, [], ◌∷◌, map}
-use Prim.Native.Nat.{ℕ, ◌+◌, ◌-◌, ◌≤◌, ◌<◌}
+use Prim.Native.Nat.{ℕ, zero, suc, ◌+◌, ◌-◌, ◌≤◌, ◌<◌}
+use native.Mathlib.Numerals.{add-one}
 use native.Mathlib.Omega.{arith}
 use lib.ListN.{length, length-set, set}
 use lib.Seq.{get_or-set_same, get_or-set_other}
@@ -10,6 +11,7 @@ use borrow.Author.Rules.{rules}
 use mir.Val.{Val}
 use denote.Laws.{Is}
 use denote.Struct.Declared.{row}
+use Rattle.std.specs.List.{list_any, range_with_len}
 use Rattle.rules.specs.Lists.{any, from}
 use Rattle.rules.specs.Guesses as Rules
 use Rattle.rules.specs.Search.{same_guess, among}
@@ -79,10 +81,11 @@ no_room g c x h = record { within = omega arith; guesses = λ m. absurd (omega (
 
 -- ## Looking for a guess
 
--- it stands at a place
-abbrev pub is_at : Guesses → Rules.Guess → ℕ → Bool
-is_at g a i = same_guess a (guess_at g i)
-
-pub among_places : (g : Guesses) (a : Rules.Guess) → any (is_at g a) (from g.head (most_waiting - g.head)) ≡ among a (guesses_of g)
+-- a guess waits where it stands at a place from the head on
+pub among_places : (g : Guesses) (a : Rules.Guess) → list_any (λ i. same_guess a (guess_at g i)) (range_with_len g.head (most_waiting - g.head)) ≡ among a (guesses_of g)
 unfolding among guesses_of
-among_places g a = sym (any_map (same_guess a) (guess_at g) (from g.head (most_waiting - g.head)))
+among_places g a = any_range (λ i. same_guess a (guess_at g i)) g.head (most_waiting - g.head) ∙ sym (any_map (same_guess a) (guess_at g) (from g.head (most_waiting - g.head)))
+  where
+    any_range : (p : ℕ → Bool) (i n : ℕ) → list_any p (range_with_len i n) ≡ any p (from i n)
+    any_range p i zero = refl
+    any_range p i (suc n) = ap (λ v. p i || v) (rw add-one (any_range p (suc i) n))

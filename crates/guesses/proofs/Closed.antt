@@ -2,13 +2,14 @@
 use mathlib.Core.Path.{◌≡◌, refl, sym, ap, ◌∙◌}
 use mathlib.Core.Bool.{Bool, true, false, ◌||◌}
 use mathlib.Core.List.{List, [], ◌∷◌}
-use Prim.Native.Nat.{ℕ, ◌*◌, ◌≤◌, ◌<◌}
+use Prim.Native.Nat.{ℕ, zero, suc, ◌*◌, ◌≤◌, ◌<◌}
 use native.Mathlib.Omega.{arith}
 use lib.Bits.{bit_and, and_le_l}
 use lib.Dec.{eqb}
 use lib.ListN.{length, get_or, get_or-replicate, set, replicate}
 use lib.Seq.{get_or-take, get_or-set_same, get_or-set_other}
 use borrow.Author.Tests.{eqb-true, eq-eqb, ne_eqb}
+use Rattle.std.specs.List.{list_any, zip}
 use Rattle.rules.specs.Lists.{every, any, from}
 use Rattle.rules.specs.Sets.{has, colours}
 use Rattle.rules.specs.Boards.{Cell, at}
@@ -77,16 +78,38 @@ module _ (made : List ℕ) (c x : ℕ) (l : List Guess) (m : Made made l) where
 
 -- ## Closed cells
 
+-- each colour that the cell has was guessed
+abbrev all_made : List ℕ → List ℕ → Cell → Bool
+all_made b made c = every (has (get_or made c 0)) (colours (at b c))
+
+closed_made : (b made : List ℕ) → length b ≤ 256 → (l : List Guess) → Made made l → any (all_made b made) (from 0 (length b)) ≡ any_closed b l
+unfolding any_closed closed
+closed_made b made few l m =
+    any_same (all_made b made) (closed b l) (from 0 (length b)) (λ c i.
+    let h = (from_low 0 (length b) i).1 in
+    every_same (has (get_or made c 0)) (λ x. among (guess c x) l) (colours (at b c)) (λ x j. m.each c x (omega arith) (member 8 (at b c) j).0))
+
+-- on a board by value
 abbrev pub covered : Board → List ℕ → Cell → Bool
 covered b made c = every (has (get_or made c 0)) (colours (get_or b.cells c 0))
 
 pub any_covered : (b : Board) (made : List ℕ) → Sized b → length (board_of b) ≡ b.w * b.h → (l : List Guess) → Made made l →
     any (covered b made) (from 0 (b.w * b.h)) ≡ any_closed (board_of b) l
-unfolding any_closed closed
 any_covered b made s long l m =
-    any_same (covered b made) (closed (board_of b) l) (from 0 (b.w * b.h)) (λ c i.
+    any_same (covered b made) (all_made (board_of b) made) (from 0 (b.w * b.h)) (λ c i.
     let h : c < b.w * b.h = (let z = (from_low 0 (b.w * b.h) i).1 in omega arith) in
-    let e : at (board_of b) c ≡ get_or b.cells c 0 = get_or-take (b.w * b.h) b.cells c 0 h in
-    ap (λ t. every (has (get_or made c 0)) (colours t)) (sym e) ∙
-    every_same (has (get_or made c 0)) (λ x. among (guess c x) l) (colours (at (board_of b) c)) (λ x j. m.each c x (omega (arith, few_cells b s)) (member 8 (at (board_of b) c) j).0)) ∙
-    ap (λ n. any (closed (board_of b) l) (from 0 n)) (sym long)
+    ap (λ t. every (has (get_or made c 0)) (colours t)) (sym (get_or-take (b.w * b.h) b.cells c 0 h))) ∙
+    ap (λ n. any (all_made (board_of b) made) (from 0 n)) (sym long) ∙ closed_made (board_of b) made (omega (arith, few_cells b s)) l m
+
+-- each cell beside its set of colours guessed
+any_pair : (f : ℕ → ℕ → Bool) (xs ys : List ℕ) → length xs ≤ length ys → list_any (λ p. f p.0 p.1) (zip xs ys) ≡ any (λ c. f (get_or xs c 0) (get_or ys c 0)) (from 0 (length xs))
+any_pair f [] ys h = refl
+any_pair f (x ∷ xs) [] h = absurd (omega arith)
+any_pair f (x ∷ xs) (y ∷ ys) h = ap (λ v. f x y || v) (any_pair f xs ys (omega arith) ∙ sym (any_later (λ c. f (get_or (x ∷ xs) c 0) (get_or (y ∷ ys) c 0)) 0 (length xs)))
+  where
+    any_later : (p : ℕ → Bool) (i n : ℕ) → any p (from (suc i) n) ≡ any (λ c. p (suc c)) (from i n)
+    any_later p i zero = refl
+    any_later p i (suc n) = ap (λ v. p (suc i) || v) (any_later p (suc i) n)
+
+pub pairs_closed : (b made : List ℕ) → length b ≤ 256 → length made ≡ 256 → (l : List Guess) → Made made l → list_any (λ p. every (has p.1) (colours p.0)) (zip b made) ≡ any_closed b l
+pairs_closed b made few long l m = any_pair (λ s t. every (has t) (colours s)) b made (omega arith) ∙ closed_made b made few l m

@@ -4,5 +4,4 @@ pub mod Room
 pub mod Others
 pub mod Unsolved
 pub mod Closed
-pub mod Popping
 pub mod Placing

@@ -1,49 +1,32 @@
 -- A cell's other colours come to wait, one after the other.
 use mathlib.Core.Path.{◌≡◌, refl, sym, ap, ◌∙◌}
-use mathlib.Core.Bool.{Bool, true, false, ◌||◌}
+use mathlib.Core.Bool.{Bool, true, false, not, ◌&&◌, ◌||◌}
 use mathlib.Core.List.{List, [], ◌∷◌}
 use Prim.Native.Nat.{ℕ, ◌+◌, ◌-◌, ◌≤◌, ◌<◌}
 use native.Mathlib.Omega.{arith}
 use lib.Dec.{eqb}
 use lib.ListN.{length}
-use borrow.Author.Tests.{eq-eqb, ne_eqb}
 use Rattle.rules.specs.Lists.{keep, from}
 use Rattle.rules.specs.Sets.{Colour, has, members, colours}
 use Rattle.rules.specs.Boards.{Cell}
 use Rattle.rules.specs.Guesses.{Guess, guess}
 use Rattle.rules.specs.Search.{among, others}
 use Rattle.rules.specs.Answers.{most_waiting}
-use Rattle.rules.proofs.Tests.{on_test}
+use Rattle.rules.proofs.Tests.{on_test, by_test}
 use Rattle.rules.proofs.Lists.{from_more, from_end}
 use Rattle.guesses.specs.declared.waiting.Guesses.{Guesses}
-use Rattle.guesses.specs.Waiting.{guesses_of, IfRoom, with_other}
+use Rattle.guesses.specs.Waiting.{guesses_of, IfRoom, is_other, with_other}
+use Rattle.guesses.proofs.Room.{room_kept}
 
 -- ## One colour
 
 module _ (g : Guesses) (c : Cell) (x : Colour) (s : ℕ) (y : Colour) where
-  abbrev Other : Guesses → Type 0
-  Other r = IfRoom (with_other c x s y (guesses_of g)) r
-
   -- what waits already has room
-  kept : g.head ≤ most_waiting → with_other c x s y (guesses_of g) ≡ guesses_of g → Other g
-  kept h e = record { within = h; guesses = λ _. sym e }
+  pub other_kept : g.head ≤ most_waiting → is_other c x s y (guesses_of g) ≡ false → IfRoom (with_other c x s y (guesses_of g)) g
+  other_kept h e = rw (e, with_other) (room_kept g h)
 
-  pub other_gone : g.head ≤ most_waiting → has s y ≡ false → Other g
-  unfolding with_other
-  other_gone h e = kept h (rw (e, with_other))
-
-  module _ (e : has s y ≡ true) where
-    pub other_same : g.head ≤ most_waiting → y ≡ x → Other g
-    unfolding with_other
-    other_same h k = kept h (rw (e, eq-eqb y x k, with_other))
-
-    pub other_waits : g.head ≤ most_waiting → (y ≡ x → ⊥) → among (guess c y) (guesses_of g) ≡ true → Other g
-    unfolding with_other
-    other_waits h k w = kept h (rw (e, ne_eqb y x k, w, with_other))
-
-    pub other_new : (r : Guesses) → (y ≡ x → ⊥) → among (guess c y) (guesses_of g) ≡ false → IfRoom (guess c y ∷ guesses_of g) r → Other r
-    unfolding with_other
-    other_new r k w u = rw (e, ne_eqb y x k, w, with_other) u
+  pub other_new : (r : Guesses) → is_other c x s y (guesses_of g) ≡ true → IfRoom (guess c y ∷ guesses_of g) r → IfRoom (with_other c x s y (guesses_of g)) r
+  other_new r e u = rw (e, with_other) u
 
 -- ## All colours
 
@@ -53,13 +36,12 @@ module _ (c : Cell) (x : Colour) (s : ℕ) where
   others_from y gs = others c x (keep (has s) (from y (8 - y))) gs
 
   one_more : (v : Bool) (y : Colour) (ys : List Colour) (gs : List Guess) →
-      others c x (elim v [ true ↦ y ∷ ys | false ↦ ys ]) gs ≡ others c x ys (elim v [ true ↦ elim (eqb y x || among (guess c y) gs) [ true ↦ gs | false ↦ guess c y ∷ gs ] | false ↦ gs ])
+      others c x (elim v [ true ↦ y ∷ ys | false ↦ ys ]) gs ≡ others c x ys (elim (v && not (eqb y x || among (guess c y) gs)) [ true ↦ guess c y ∷ gs | false ↦ gs ])
   unfolding others
-  one_more true y ys gs = refl
+  one_more true y ys gs = by_test (eqb y x || among (guess c y) gs) (λ e. rw e) (λ e. rw e)
   one_more false y ys gs = refl
 
   others_more : (y : ℕ) (gs : List Guess) → y < 8 → others_from y gs ≡ others_from (y + 1) (with_other c x s y gs)
-  unfolding with_other
   others_more y gs h = ap (λ l. others c x (keep (has s) l) gs) (from_more y 8 h) ∙ one_more (has s y) y (keep (has s) (from (y + 1) (8 - (y + 1)))) gs
 
   others_end : (y : ℕ) (gs : List Guess) → 8 ≤ y → others_from y gs ≡ gs
@@ -76,17 +58,15 @@ module _ (c : Cell) (x : Colour) (s : ℕ) where
   -- what is still to be added to g makes the others of gs, where there is room for these
   pub record Adding (gs : List Guess) (g : Guesses) (y : ℕ) : Type 0 where
     pub within : g.head ≤ most_waiting
-    pub upto : y ≤ 8
     pub all : length (others c x (colours s) gs) ≤ most_waiting → others_from y (guesses_of g) ≡ others c x (colours s) gs
 
   pub adding_start : (g : Guesses) → g.head ≤ most_waiting → Adding (guesses_of g) g 0
   unfolding members
-  adding_start g h = record { within = h; upto = omega arith; all = λ _. refl }
+  adding_start g h = record { within = h; all = λ _. refl }
 
   pub adding_turn : (gs : List Guess) (g r : Guesses) (y : ℕ) → Adding gs g y → y < 8 → IfRoom (with_other c x s y (guesses_of g)) r → Adding gs r (y + 1)
   adding_turn gs g r y a h k = record {
     within = k.within;
-    upto = omega arith;
     all = λ room.
         let e : others_from (y + 1) (with_other c x s y (guesses_of g)) ≡ others c x (colours s) gs = sym (others_more y (guesses_of g) h) ∙ a.all room in
         let l = others_grow (keep (has s) (from (y + 1) (8 - (y + 1)))) (with_other c x s y (guesses_of g)) in

@@ -1,6 +1,5 @@
 -- What waits where there is room for it, as guesses are put before others.
 use mathlib.Core.Path.{refl, ap, ◌∙◌}
-use mathlib.Core.Bool.{Bool, true, false}
 use mathlib.Core.List.{List}
 use Prim.Native.Nat.{◌≤◌}
 use native.Mathlib.Omega.{arith}
@@ -8,7 +7,7 @@ use lib.ListN.{length}
 use Rattle.rules.specs.Guesses.{Guess}
 use Rattle.rules.specs.Answers.{most_waiting}
 use Rattle.guesses.specs.declared.waiting.Guesses.{Guesses}
-use Rattle.guesses.specs.Waiting.{guesses_of, Waiting, IfRoom, with_if}
+use Rattle.guesses.specs.Waiting.{guesses_of, Waiting, IfRoom}
 
 pub waiting_room : {gs : List Guess} {g : Guesses} → Waiting gs g → IfRoom gs g
 waiting_room w = record { within = w.within; guesses = λ _. w.guesses }
@@ -27,7 +26,3 @@ room_more f more {gs} {g} {r} u v = record {
   within = v.within;
   guesses = λ h. let e = ap f (u.guesses (let l = more gs in omega arith)) in v.guesses (omega (arith, ap length e)) ∙ e;
 }
-
-pub if_more : (v : Bool) (a : Guess) (gs : List Guess) → length gs ≤ length (with_if v a gs)
-if_more true a gs = omega arith
-if_more false a gs = omega arith

@@ -1,5 +1,5 @@
 -- What the arrays of the waiting guesses stand for: the rules' list of guesses.
-use Rattle.std.specs.Prelude.{◌≡◌, Bool, true, false, ◌||◌, List, ◌∷◌, map, ℕ, ◌-◌, ◌≤◌, eqb, length, get_or}
+use Rattle.std.specs.Prelude.{◌≡◌, Bool, true, false, not, ◌&&◌, ◌||◌, List, ◌∷◌, map, ℕ, ◌-◌, ◌≤◌, eqb, length, get_or}
 use Rattle.rules.specs.Lists.{from}
 use Rattle.rules.specs.Sets.{Colour, has}
 use Rattle.rules.specs.Boards.{Cell}
@@ -15,6 +15,10 @@ guess_of g = Rules.guess g.cell.0 g.colour.0
 -- the guess at a place
 abbrev pub guess_at : Guesses → ℕ → Rules.Guess
 guess_at g i = Rules.guess (get_or g.cells i 0) (get_or g.colours i 0)
+
+-- the same, as the code holds it
+abbrev pub at_place : Guesses → ℕ → Guess
+at_place g i = record { cell = record { 0 = get_or g.cells i 0 }; colour = record { 0 = get_or g.colours i 0 } }
 
 -- the next guess
 abbrev pub next : Guesses → Rules.Guess
@@ -39,14 +43,10 @@ pub record Rest (g r : Guesses) : Type 0 where
   pub within : r.head ≤ most_waiting
   pub guesses : guesses_of g ≡ next g ∷ guesses_of r
 
--- a guess comes to wait before the others if it is wanted
-abbrev pub with_if : Bool → Rules.Guess → List Rules.Guess → List Rules.Guess
-with_if true a gs = a ∷ gs
-with_if false a gs = gs
+-- whether a colour y of a set comes to wait at a cell: unless it is the colour x or waits already
+abbrev pub is_other : Cell → Colour → ℕ → Colour → List Rules.Guess → Bool
+is_other c x s y gs = has s y && not (eqb y x || among (Rules.guess c y) gs)
 
--- one colour y of a set comes to wait at a cell, unless it is the colour x or waits already
-unfoldable pub with_other : Cell → Colour → ℕ → Colour → List Rules.Guess → List Rules.Guess
-with_other c x s y gs = elim (has s y) [
-  | true ↦ elim (eqb y x || among (Rules.guess c y) gs) [ true ↦ gs | false ↦ Rules.guess c y ∷ gs ]
-  | false ↦ gs
-]
+-- and what waits then
+abbrev pub with_other : Cell → Colour → ℕ → Colour → List Rules.Guess → List Rules.Guess
+with_other c x s y gs = elim (is_other c x s y gs) [ true ↦ Rules.guess c y ∷ gs | false ↦ gs ]

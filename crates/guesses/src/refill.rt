@@ -17,10 +17,10 @@ fn colours_of(c: CellNo, s: u8) -> Guesses
     ensures { Waiting (map (guess c.0) (colours s)) result }
 {
     let mut g = Guesses::none();
-    let mut y: u8 = 8;
-    while y > 0 {
-        y -= 1;
-        g = g.push_if(cells::has(s, Colour(y)), c, Colour(y));
+    for y in (0..8).rev() {
+        if cells::has(s, Colour(y)) {
+            g.wait(c, Colour(y));
+        }
     }
     g
 }
@@ -30,16 +30,11 @@ pub fn first_unsolved(b: Board) -> Guesses
     requires { Sized b }
     ensures { Waiting (first_unsolved (board_of b)) result }
 {
-    let n = b.w * b.h;
-    let mut i: usize = 0;
-    while i < n {
-        let s = b.cells[i];
-        if !cells::is_solved(s) {
-            return colours_of(CellNo(i as u16), s);
-        }
-        i += 1;
+    let cells = &b.cells[..b.w * b.h];
+    match cells.iter().position(|s| !cells::is_solved(*s)) {
+        Some(i) => colours_of(CellNo(i as u16), cells[i]),
+        None => Guesses::none(),
     }
-    Guesses::none()
 }
 
 // Whether every colour of the set s is in the set m.
@@ -54,15 +49,8 @@ pub fn any_closed(b: Board, made: [u8; 256]) -> bool
     requires { Sized b }
     ensures { (l : List Guess) → Made made l → result ≡ any_closed (board_of b) l }
 {
-    let n = b.w * b.h;
-    let mut i: usize = 0;
-    while i < n {
-        if covers(b.cells[i], made[i]) {
-            return true;
-        }
-        i += 1;
-    }
-    false
+    let cells = &b.cells[..b.w * b.h];
+    cells.iter().zip(&made).any(|(s, m)| covers(*s, *m))
 }
 
 // One guess more was made and was not dead.

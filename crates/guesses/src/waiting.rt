@@ -2,15 +2,15 @@
 ghost use Rattle.std.specs.Prelude.{◌≡◌, [], ◌∷◌, ◌≤◌, ◌<◌};
 ghost use Rattle.rules.specs.Sets.{colours};
 ghost use Rattle.rules.specs.Guesses.{guess};
-ghost use Rattle.rules.specs.Search.{same_guess, among, others};
+ghost use Rattle.rules.specs.Search.{among, others};
 ghost use Rattle.rules.specs.Answers.{most_waiting};
-ghost use Rattle.guesses.specs.Waiting.{guess_of, next, guesses_of, Waiting, IfRoom, Rest, with_if, with_other};
+ghost use Rattle.guesses.specs.Waiting.{guess_of, at_place, next, guesses_of, Waiting, IfRoom, Rest, with_other};
 
 use cells::{CellNo, Colour};
 use rules::MOST_WAITING;
 
 // A cell and a colour for it.
-#[derive(Clone, Copy)]
+#[derive(Clone, Copy, Debug, PartialEq, Eq)]
 pub struct Guess {
     pub cell: CellNo,
     pub colour: Colour,
@@ -22,13 +22,6 @@ pub struct Guesses {
     pub head: usize,
     pub cells: [u16; MOST_WAITING],
     pub colours: [u8; MOST_WAITING],
-}
-
-// Whether two guesses are the same.
-fn same_guess(a: Guess, b: Guess) -> bool
-    ensures { result ≡ same_guess (guess_of a) (guess_of b) }
-{
-    a.cell.0 == b.cell.0 && a.colour.0 == b.colour.0
 }
 
 impl Guesses {
@@ -45,16 +38,23 @@ impl Guesses {
         }
     }
 
+    // The guess at a place.
+    fn at(&self, i: usize) -> Guess
+        requires { i < most_waiting }
+        ensures { result ≡ at_place self.now i }
+    {
+        Guess {
+            cell: CellNo(self.cells[i]),
+            colour: Colour(self.colours[i]),
+        }
+    }
+
     // The next guess.
     pub fn first(self) -> Guess
         requires { self.head < most_waiting }
         ensures { guess_of result ≡ next self }
     {
-        let i = self.head;
-        Guess {
-            cell: CellNo(self.cells[i]),
-            colour: Colour(self.colours[i]),
-        }
+        self.at(self.head)
     }
 
     // The guesses after the next one.
@@ -62,68 +62,51 @@ impl Guesses {
         requires { self.head < most_waiting }
         ensures { Rest self result }
     {
-        let mut g = self;
-        g.head = self.head + 1;
-        g
+        Guesses {
+            head: self.head + 1,
+            ..self
+        }
     }
 
-    // A guess comes to wait before the others. Where there is no room it does not, which never happens in a search.
+    // A guess comes to wait before the others, in place. Where there is no room it does not, which never happens in a search.
+    pub(crate) fn wait(&mut self, c: CellNo, x: Colour)
+        requires { self.old.head ≤ most_waiting }
+        ensures { IfRoom (guess c.0 x.0 ∷ guesses_of self.old) self.new }
+    {
+        if 0 < self.head {
+            let i = self.head - 1;
+            self.cells[i] = c.0;
+            self.colours[i] = x.0;
+            self.head = i;
+        }
+    }
+
+    // A guess comes to wait before the others, where there is room.
     pub fn push(self, c: CellNo, x: Colour) -> Guesses
         requires { self.head ≤ most_waiting }
         ensures { IfRoom (guess c.0 x.0 ∷ guesses_of self) result }
     {
         let mut g = self;
-        if 0 < g.head {
-            let i = g.head - 1;
-            g.cells[i] = c.0;
-            g.colours[i] = x.0;
-            g.head = i;
-        }
+        g.wait(c, x);
         g
     }
 
-    // A guess comes to wait if it is wanted.
-    pub fn push_if(self, wanted: bool, c: CellNo, x: Colour) -> Guesses
-        requires { self.head ≤ most_waiting }
-        ensures { IfRoom (with_if wanted (guess c.0 x.0) (guesses_of self)) result }
-    {
-        if wanted { self.push(c, x) } else { self }
-    }
-
     // Whether a guess waits.
-    pub fn waits(self, c: CellNo, x: Colour) -> bool
-        ensures { result ≡ among (guess c.0 x.0) (guesses_of self) }
+    pub fn waits(&self, c: CellNo, x: Colour) -> bool
+        ensures { result ≡ among (guess c.0 x.0) (guesses_of self.now) }
     {
-        let g = Guess { cell: c, colour: x };
-        let mut i = self.head;
-        while i < MOST_WAITING {
-            let there = Guess {
-                cell: CellNo(self.cells[i]),
-                colour: Colour(self.colours[i]),
-            };
-            if same_guess(g, there) {
-                return true;
-            }
-            i += 1;
-        }
-        false
+        let guess = Guess { cell: c, colour: x };
+        (self.head..MOST_WAITING).any(|i| guess == self.at(i))
     }
 
     // One colour of a set comes to wait, unless it is the colour x or waits already.
-    fn other(self, c: CellNo, x: Colour, set: u8, y: Colour) -> Guesses
-        requires { (self.head ≤ most_waiting) × (y.0 < 8) }
-        ensures { IfRoom (with_other c.0 x.0 set y.0 (guesses_of self)) result }
+    fn other(&mut self, c: CellNo, x: Colour, set: u8, y: Colour)
+        requires { (self.old.head ≤ most_waiting) × (y.0 < 8) }
+        ensures { IfRoom (with_other c.0 x.0 set y.0 (guesses_of self.old)) self.new }
     {
-        if !cells::has(set, y) {
-            return self;
+        if cells::has(set, y) && y != x && !self.waits(c, y) {
+            self.wait(c, y);
         }
-        if y.0 == x.0 {
-            return self;
-        }
-        if self.waits(c, y) {
-            return self;
-        }
-        self.push(c, y)
     }
 
     // The cell's other colours not already waiting, ascending, each before the guesses that wait: so the highest goes first.
@@ -132,10 +115,8 @@ impl Guesses {
         ensures { IfRoom (others c.0 x.0 (colours set) (guesses_of self)) result }
     {
         let mut g = self;
-        let mut y: u8 = 0;
-        while y < 8 {
-            g = g.other(c, x, set, Colour(y));
-            y += 1;
+        for y in 0..8 {
+            g.other(c, x, set, Colour(y));
         }
         g
     }

@@ -5,12 +5,11 @@ use mathlib.Core.List.{List, [], ◌∷◌, ◌++◌, map}
 use mathlib.Core.Option as Math
 use Prim.Native.Nat.{ℕ, ◌<◌}
 use native.Mathlib.Omega.{arith}
-use lib.ListN.{length, length-map, get_or, set}
+use lib.ListN.{length, get_or, set}
 use borrow.Author.Tests.{ne_eqb}
 use Rattle.std.specs.Prelude.{Option, None, Some}
 use Rattle.std.specs.Bool.{then_some}
 use Rattle.std.specs.List.{All}
-use Rattle.std.proofs.lemmas.List.{map-append}
 use Rattle.std.proofs.lemmas.List.Elements.{All-nil, All-same, All-push}
 use Rattle.cells.specs.declared.Colour as Cells
 use Rattle.cells.specs.Numbers.{colour_numbers}
@@ -112,37 +111,31 @@ module _ (ns : Probing.Notes) (c : ℕ) (order : List Cells.Colour) where
 
 pub record Taken (s : ℕ) (counts : List ℕ) (left : ℕ) (order : List Cells.Colour) : Type 0 where
   pub low : All (λ x. x.0 < 8) order
-  pub popping : Popping more (waiting_colours s counts) (waiting_colours left counts) 8 (colour_numbers order)
+  pub popping : Popping (λ x. x.0) more (waiting_colours s counts) (waiting_colours left counts) 8 order
 
 module _ (s : ℕ) (counts : List ℕ) where
   pub taken_start : (order : List Cells.Colour) → order ≡ [] → Taken s counts s order
   taken_start order e = record {
     low = All-same (λ x. x.0 < 8) order [] e (All-nil (λ x. x.0 < 8));
-    popping = rw e (popping_start more (waiting_colours s counts) 8 (omega (arith, waiting_length s counts)));
+    popping = popping_start (λ x. x.0) more (waiting_colours s counts) 8 (omega (arith, waiting_length s counts)) order e;
   }
 
   module _ (left : ℕ) (order : List Cells.Colour) (t : Taken s counts left order) where
-    abbrev whole : Queue ℕ
-    whole = waiting_colours s counts
-
-    abbrev rest : Queue ℕ
-    rest = waiting_colours left counts
-
     module _ (x : Cells.Colour) (e : popped_colour left counts (Some x) ≡ pop more (waiting_colours left counts)) where
       pub taken_low : x.0 < 8
       taken_low = colour_low left counts x.0 _ e
 
-      pub taken_fewer : waiting (waiting_colours (without left x.0) counts) < waiting rest
-      taken_fewer = popping_fewer more whole 8 rest (colour_numbers order) t.popping x.0 _ (sym e)
+      pub taken_fewer : waiting (waiting_colours (without left x.0) counts) < waiting (waiting_colours left counts)
+      taken_fewer = popping_fewer (λ y. y.0) more (waiting_colours s counts) 8 (waiting_colours left counts) order t.popping x _ e
 
       pub taken_room : length order < 8
-      taken_room = omega (arith, popping_room more whole 8 rest (colour_numbers order) t.popping x.0 _ (sym e), length-map order (λ y. y.0))
+      taken_room = popping_room (λ y. y.0) more (waiting_colours s counts) 8 (waiting_colours left counts) order t.popping x _ e
 
       pub taken_turn : (next : List Cells.Colour) → next ≡ order ++ (x ∷ []) → Taken s counts (without left x.0) next
       taken_turn next h = record {
         low = All-same (λ y. y.0 < 8) next _ h (All-push (λ y. y.0 < 8) order x t.low taken_low);
-        popping = rw (h, map-append (λ y. y.0) order (x ∷ [])) (popping_turn more whole 8 rest (colour_numbers order) t.popping x.0 _ (sym e));
+        popping = popping_turn (λ y. y.0) more (waiting_colours s counts) 8 (waiting_colours left counts) order t.popping x _ e next h;
       }
 
     pub taken_end : popped_colour left counts None ≡ pop more (waiting_colours left counts) → Ordered (in_order more (tally (each_of s counts))) order
-    taken_end e = record { low = t.low; colours = popping_end more whole 8 rest (colour_numbers order) t.popping (sym e) ∙ order_is s counts }
+    taken_end e = record { low = t.low; colours = popping_end (λ y. y.0) more (waiting_colours s counts) 8 (waiting_colours left counts) order t.popping e ∙ order_is s counts }

@@ -1,10 +1,16 @@
--- The invariant: the cells taken out, and those still waiting, are all, in order. The measure is what is left of the array.
-use Prim.Native.Nat.{◌-◌}
-use Rattle.guesses.proofs.Popping.{Popping}
+-- The invariant: the cells taken out, and those still waiting, are all, in order. The measure is how many wait.
+use Rattle.std.proofs.Common.{◌≤◌}
+use Rattle.rules.specs.Floats.{higher}
+use Rattle.rules.specs.Queues.{waiting}
+use Rattle.queues.specs.Entries.{queue_of}
+use Rattle.queues.proofs.Popping.{Popping}
 use Rattle.guesses.proofs.choosing.in_order.Given as goal
 
-abbrev pub invariant-loop-n : goal.invariant-loop-n
-invariant-loop-n l = Popping l.initial.left l.left l.cells l.n
+abbrev pub invariant-loop-c : goal.invariant-loop-c
+invariant-loop-c l = record {
+  within : l.left.n ≤ 256;
+  popping : Popping (λ c. c.0) higher (queue_of l.initial.left) (queue_of l.left) 256 l.order.items;
+}
 
-abbrev pub decreases-loop-n : goal.decreases-loop-n
-decreases-loop-n l = 256 - l.n
+abbrev pub decreases-loop-c : goal.decreases-loop-c
+decreases-loop-c l = waiting (queue_of l.left)

@@ -1,32 +1,23 @@
--- Each way out takes the case of `with_other` that its tests found.
-use mathlib.Core.Path.{◌≡◌, sym, ◌∙◌}
+-- A colour comes to wait where each test passes.
+use borrow.Author.Rules.{rules}
+use borrow.Author.Tests.{tests}
+use mathlib.Core.Path.{◌≡◌}
 use mathlib.Core.Bool.{true}
-use borrow.Author.Tests.{not-true, not-false}
-use Rattle.rules.specs.Sets.{has}
-use Rattle.guesses.proofs.Others.{other_gone, other_same, other_waits, other_new}
+use Rattle.guesses.specs.Waiting.{guesses_of, is_other}
+use Rattle.guesses.proofs.Others.{other_kept, other_new}
 use Rattle.guesses.proofs.waiting.Guesses.other.Goals as goal
-use Rattle.guesses.proofs.waiting.Guesses.other.Goals.{Else-not-has}
+use Rattle.guesses.proofs.waiting.Guesses.other.Goals.{else-has-via-then-has+then-ne+else-not-waits, else-has-via-then-has+else-ne, else-has-via-else-has}
 
-pub returns-then-not-has : goal.returns-then-not-has
-returns-then-not-has c =
+pub returns-then-not-waits : goal.returns-then-not-waits
+returns-then-not-waits c =
     let a = c.args in
-    other_gone a.self a.c.0 a.x.0 a.set a.y.0 c.requires.0 (sym c.has.ensures ∙ not-true _ c.if-not-has.true-raw)
+    other_new a.self.now a.c.0 a.x.0 a.set a.y.0 _ (let e : is_other a.c.0 a.x.0 a.set a.y.0 (guesses_of a.self.now) ≡ true = search (rules, tests) in e) c.wait.ensures
 
--- after the first test the set has the colour
-there : (k : Else-not-has) → let a = k.before.before.args in has a.set a.y.0 ≡ true
-there k = sym k.before.has.ensures ∙ not-false _ k.if-not-has.false-raw
-
-pub returns-then-y-x : goal.returns-then-y-x
-returns-then-y-x c =
+pub returns-else-has : goal.returns-else-has
+returns-else-has c =
     let a = c.args in
-    other_same a.self a.c.0 a.x.0 a.set a.y.0 (there (goal.at.returns-then-y-x c).Else-not-has) c.requires.0 c.if-y-x.true
-
-pub returns-then-waits : goal.returns-then-waits
-returns-then-waits c =
-    let a = c.args in
-    other_waits a.self a.c.0 a.x.0 a.set a.y.0 (there (goal.at.returns-then-waits c).Else-not-has) c.requires.0 c.if-y-x.false (sym c.waits.ensures ∙ c.if-waits.true)
-
-pub returns : goal.returns
-returns c =
-    let a = c.args in
-    other_new a.self a.c.0 a.x.0 a.set a.y.0 (there (goal.at.returns c).Else-not-has) c.push.result c.if-y-x.false (sym c.waits.ensures ∙ c.if-waits.false) c.push.ensures
+    other_kept a.self.now a.c.0 a.x.0 a.set a.y.0 c.requires.0 (elim c.else-has.branch [
+      | else-has-via-then-has+then-ne+else-not-waits w ↦ search (rules, tests)
+      | else-has-via-then-has+else-ne w ↦ search (rules, tests)
+      | else-has-via-else-has w ↦ search (rules, tests)
+    ])

@@ -10,6 +10,5 @@ use Rattle.notes.proofs.round.Note.least.Goals as goal
 
 pub returns : goal.returns
 returns c =
-    let t = c.args.self.now in
-    c.unwrap_or.ensures ∙ smallest_counted t c.min.result
-    (min_from_yields_List _ _ c.min.ensures.ran (YieldsList-from_filter_map _ (solves t) (YieldsList-from_range 0 8 8 (cc) refl) c.filter_map.ensures.closure (λ x r q k. search (rules, tests))))
+    c.unwrap_or.ensures ∙ smallest_counted c.args.self.now c.min.result
+    (min_from_yields_List _ _ c.min.ensures.ran (YieldsList-from_filter_map _ (solves c.args.self.now) (YieldsList-from_range 0 8 8 (cc) refl) c.filter_map.ensures.closure (λ x r q k. search (rules, tests))))
