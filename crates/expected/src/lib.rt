@@ -1,7 +1,10 @@
 // What is expected of a search, and whether it comes: the answer, every byte of the board and every byte of the list.
 #![tactic(auto)]
 
-use belutharin::Answer;
+ghost use Rattle.std.specs.Prelude.{◌≡◌, ◌↔◌, IsTrue};
+ghost use Rattle.rules.specs.Answers.{solve};
+ghost use Rattle.belutharin.specs.Answers.{asked};
+ghost use Rattle.expected.specs.Agreeing.{widened_of, IsList, Agrees};
 
 // Each byte of a list before it is lent.
 pub const UNTOUCHED: u8 = 165;
@@ -17,7 +20,7 @@ pub struct Question {
     pub budget: u64,
 }
 
-// The five numbers of an answer.
+// The five numbers of an answer, as a text has them.
 #[derive(Clone, Copy, PartialEq, Eq)]
 pub struct Numbers {
     pub number: u64,
@@ -27,14 +30,16 @@ pub struct Numbers {
     pub limit: u64,
 }
 
-impl From<Answer> for Numbers {
-    fn from(a: Answer) -> Self {
+impl From<belutharin::Numbers> for Numbers {
+    ghost from_gives = { λ n widened. widened ≡ widened_of n };
+
+    fn from(n: belutharin::Numbers) -> Self {
         Numbers {
-            number: u64::from(a.number),
-            grids: a.grids as u64,
-            steps: a.steps,
-            deepest: a.deepest as u64,
-            limit: u64::from(a.limit),
+            number: u64::from(n.number),
+            grids: n.grids as u64,
+            steps: n.steps,
+            deepest: n.deepest as u64,
+            limit: u64::from(n.limit),
         }
     }
 }
@@ -48,14 +53,20 @@ pub struct Expected<'a> {
 }
 
 // Whether a list is the stored grids, and untouched after them.
-fn is_list(list: &[u8], grids: &[u8]) -> bool {
-    list.strip_prefix(grids)
-        .is_some_and(|rest| rest.iter().all(|b| *b == UNTOUCHED))
+fn is_list(list: &[u8], grids: &[u8]) -> bool
+    ensures { IsTrue result ↔ IsList grids.now list.now }
+{
+    match list.strip_prefix(grids) {
+        Some(rest) => rest.iter().all(|b| *b == UNTOUCHED),
+        None => false,
+    }
 }
 
-// Whether a search gives the answer that is expected, and leaves this board and these grids.
-pub fn agrees(q: Question, clues: &[u8], cells: &mut [u8], list: &mut [u8], e: Expected) -> bool {
-    let a = belutharin::solve(
+// Whether a search gives the answer that is expected, and leaves this board and these grids: whether the rules do.
+pub fn agrees(q: Question, clues: &[u8], cells: &mut [u8], list: &mut [u8], e: Expected) -> bool
+    ensures { IsTrue result ↔ Agrees e.entry (solve (asked q.w q.h q.k q.most_grids q.most_depth q.budget clues.now cells.old list.old)) }
+{
+    let answer = belutharin::solve(
         q.w,
         q.h,
         q.k,
@@ -66,5 +77,6 @@ pub fn agrees(q: Question, clues: &[u8], cells: &mut [u8], list: &mut [u8], e: E
         q.most_depth,
         q.budget,
     );
-    Numbers::from(a) == e.answer && &*cells == e.board && is_list(list, e.grids)
+    let numbers = belutharin::Numbers::from(answer);
+    Numbers::from(numbers) == e.answer && &*cells == e.board && is_list(list, e.grids)
 }

@@ -12,6 +12,6 @@ pub fn agrees(case: &mut Vectors) -> bool {
     let number = case.number();
     let expected_length = case.bytes(&mut expected);
     let cells = &mut cells[..length];
-    let got = lines::reduce_line(k, &clue[..clue_length], &mut *cells);
-    u64::from(got) == number && &*cells == &expected[..expected_length]
+    let answer = lines::reduce_line(k, &clue[..clue_length], &mut *cells);
+    u64::from(lines::line_number(answer)) == number && &*cells == &expected[..expected_length]
 }

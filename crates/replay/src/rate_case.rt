@@ -7,6 +7,8 @@ pub fn agrees(case: &mut Vectors) -> bool {
     let min = case.number();
     let number = case.number();
     let bits = case.number();
-    let rated = rates::rate(max, min);
-    u64::from(rated.number) == number && rated.rate.to_bits() == bits
+    match rates::rate(max, min) {
+        Ok(rate) => number == 0 && rate.to_bits() == bits,
+        Err(refusal) => u64::from(refusal.number()) == number && bits == 0,
+    }
 }

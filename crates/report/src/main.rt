@@ -3,6 +3,7 @@
 
 mod print;
 
+use belutharin::{Answer, Numbers, Outcome};
 use std::io;
 
 // A puzzle, and the limits of its search.
@@ -135,7 +136,7 @@ fn ends_at_once(rt: &impl Print) -> io::Result<()> {
 // A search, and what is printed of it.
 fn report(rt: &impl Print, puzzle: Puzzle, cells: &mut [u8], list: &mut [u8]) -> io::Result<()> {
     let Puzzle { w, h, .. } = puzzle;
-    let a = belutharin::solve(
+    let answer = belutharin::solve(
         w,
         h,
         puzzle.k,
@@ -146,10 +147,20 @@ fn report(rt: &impl Print, puzzle: Puzzle, cells: &mut [u8], list: &mut [u8]) ->
         puzzle.most_depth,
         puzzle.budget,
     );
-    print::answer_line(rt, a)?;
-    match a.number {
-        rules::SOLVED => print::grid_line(rt, 0, cells),
-        rules::LISTED => print::grid_lines(rt, list, w, h, a.grids),
+    print::answer_line(rt, Numbers::from(answer))?;
+    match answer {
+        Ok(
+            Answer {
+                outcome: Outcome::Solved,
+                ..
+            },
+        ) => print::grid_line(rt, 0, cells),
+        Ok(
+            Answer {
+                outcome: Outcome::Listed,
+                stats,
+            },
+        ) => { print::grid_lines(rt, list, w, h, stats.grids) }
         _ => Ok(()),
     }
 }

@@ -1,16 +1,16 @@
 // Printing an answer and its grids, parted by tabs.
-use belutharin::Answer;
+use belutharin::Numbers;
 use std::io;
 
 // An answer: its number, the grids stored, the steps, the deepest and the limit.
-pub fn answer_line(rt: &impl Print, a: Answer) -> io::Result<()> {
-    let Answer {
+pub fn answer_line(rt: &impl Print, numbers: Numbers) -> io::Result<()> {
+    let Numbers {
         number,
         grids,
         steps,
         deepest,
         limit,
-    } = a;
+    } = numbers;
     println!(rt; "answer\t{number}\t{grids}\t{steps}\t{deepest}\t{limit}")
 }
 

@@ -2,6 +2,7 @@
 #![tactic(auto)]
 
 use expected::{Expected, Numbers, Question, UNTOUCHED};
+use rules::Refusal;
 use std::io;
 
 // Twin, with the limits of that page.
@@ -28,8 +29,7 @@ fn say(rt: &impl Print, grid: u64, agrees: bool) -> io::Result<()> {
 
 // Grid 7: the rate of 256 and 0 is refused.
 fn refused_rate() -> bool {
-    let rated = rates::rate(256, 0);
-    rated.number == 19 && rated.rate == 0.0
+    rates::rate(256, 0) == Err(Refusal::Rate)
 }
 
 // Grid 13: Twin with most grids 2, and 0.

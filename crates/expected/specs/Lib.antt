@@ -1,0 +1,2 @@
+-- What is expected of a search.
+pub mod Agreeing
