@@ -3,7 +3,7 @@
 
 mod print;
 
-use belutharin::{Answer, Numbers, Outcome};
+use belutharin::{Numbers, Outcome};
 use std::io;
 
 // A puzzle, and the limits of its search.
@@ -148,19 +148,12 @@ fn report(rt: &impl Print, puzzle: Puzzle, cells: &mut [u8], list: &mut [u8]) ->
         puzzle.budget,
     );
     print::answer_line(rt, Numbers::from(answer))?;
-    match answer {
-        Ok(
-            Answer {
-                outcome: Outcome::Solved,
-                ..
-            },
-        ) => print::grid_line(rt, 0, cells),
-        Ok(
-            Answer {
-                outcome: Outcome::Listed,
-                stats,
-            },
-        ) => { print::grid_lines(rt, list, w, h, stats.grids) }
-        _ => Ok(()),
+    let Ok(answer) = answer else {
+        return Ok(());
+    };
+    match answer.outcome {
+        Outcome::Solved => print::grid_line(rt, 0, cells),
+        Outcome::Listed => print::grid_lines(rt, list, w, h, answer.stats.grids),
+        Outcome::DeadEnd => Ok(()),
     }
 }

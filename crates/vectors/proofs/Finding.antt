@@ -9,26 +9,26 @@ use denote.Param.Members.{Mut}
 use denote.Ref.{Bor}
 use Rattle.vectors.specs.Numbers.{digit, number, number_from}
 
--- What a number is after a byte that counts as o.
+-- what a number is after a byte that counts as o
 abbrev after : Option ℕ → List ℕ → ℕ × List ℕ
 after o text = elim o [ None ↦ number text | Some d ↦ number_from d text ]
 
--- A byte that is no digit is passed over.
+-- a byte that is no digit is passed over
 number_other : (o : Option ℕ) (text : List ℕ) → false ≡ is_some o → after o text ≡ number text
 number_other None text h = refl
 number_other (Some d) text h = cc
 
--- With a digit the number begins.
+-- with a digit the number begins
 number_digit : (o : Option ℕ) (text : List ℕ) → true ≡ is_some o → (d : ℕ) × (o ≡ Some d) × (after o text ≡ number_from d text)
 number_digit None text h = cc
 number_digit (Some d) text h = (d, refl, refl)
 
--- At the end there is no digit.
+-- at the end there is no digit
 number_end : (text : List ℕ) → length text ≡ 0 → number text ≡ number_from 0 text
 number_end [] h = refl
 number_end (b ∷ text) h = absurd (omega arith)
 
--- Calls of `next` that passed over what is no digit, and then gave a digit or reached the end, leave the text from which the number goes on.
+-- calls of `next` that passed over what is no digit, and then gave a digit or reached the end, leave the text from which the number goes on
 module _ {F : Type 0} (g : Mut F (Bor (Bor ℕ) × Unit {0}) Bool) (tests : (f : F) (x : Bor ℕ) (b : Bool) (q : F) → CalledAt g f x b q → b ≡ is_some (digit x.now)) where
   pub found : (s u : Iter ℕ) (xs : List (Bor ℕ)) (r : Option (Bor ℕ)) (f last : F) → YieldsThen iter_steps s xs r u → FoldsTo (λ p x q. CalledAt g p x false q) f xs last
       → IfSome r (λ x. (q : F) × CalledAt g last x true q)

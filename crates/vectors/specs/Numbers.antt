@@ -1,7 +1,7 @@
 -- The numbers of a text: decimal digits, parted by any other bytes.
 use Rattle.std.specs.Prelude.{ℕ, zero, suc, ◌+◌, ◌-◌, ◌*◌, ◌%◌, ◌^◌, ◌&&◌, nat_lt, cond, List, [], ◌∷◌, Option, None, Some}
 
--- What a byte counts as a digit.
+-- what a byte counts as a digit
 abbrev pub digit : ℕ → Option ℕ
 digit b = cond (nat_lt 47 b && nat_lt b 58) (Some (b - 48)) None
 
@@ -15,12 +15,12 @@ abbrev pub number : List ℕ → ℕ × List ℕ
 number [] = (0, [])
 number (b ∷ text) = elim (digit b) [ None ↦ number text | Some d ↦ number_from d text ]
 
--- The next n numbers of a text, and the text after them.
+-- the next n numbers of a text, and the text after them
 abbrev pub numbers : ℕ → List ℕ → List ℕ × List ℕ
 numbers zero text = ([], text)
 numbers (suc n) text = ((number text).0 ∷ (numbers n (number text).1).0, (numbers n (number text).1).1)
 
--- A list of bytes over whose first places numbers are put, each as a byte, as far as there is room.
+-- a list of bytes over whose first places numbers are put, each as a byte, as far as there is room
 abbrev pub put : List ℕ → List ℕ → List ℕ
 put [] bytes = bytes
 put (n ∷ ns) [] = []
