@@ -10,6 +10,7 @@ use Rattle.rules.specs.Sets.{bit, has, members, empty, only, without}
 use Rattle.rules.specs.Boards.{Puzzle, at, put, remove}
 use Rattle.rules.proofs.Tests.{by_test}
 use Rattle.rules.proofs.Sets.{has_none, has_high, some_member, empty_none}
+use Rattle.lines.specs.declared.machine.Machine.{Machine}
 use Rattle.boards.specs.declared.board.Board.{Board}
 use Rattle.boards.specs.Board.{board_of, Sized, SameSize, with_cells, with_cell}
 use Rattle.runs.specs.declared.limits.Limits.{Limits}
@@ -48,8 +49,8 @@ pub size_at : {a b : Board} (P : ℕ → ℕ → Type 0) → SameSize a b → P 
 size_at {a} {b} P e p = subst (λ u. P u b.h) (sym e.wide) (subst (λ v. P a.w v) (sym e.high) p)
 
 -- a search may go on with another board, list and counts
-pub ready_on : {a b : Board} {masks list out : List ℕ} {l : Limits} {s t : Stats} → Ready a masks list l s → SameSize a b → length out ≡ length list → t.grids ≤ l.grids → Ready b masks out l t
-ready_on {a} {b} {masks} {list} {out} {l} {s} {t} r e m k = of_size (λ d. Ready d masks out l t) e
+pub ready_on : {a b : Board} {machines : List Machine} {list out : List ℕ} {l : Limits} {s t : Stats} → Ready a machines list l s → SameSize a b → length out ≡ length list → t.grids ≤ l.grids → Ready b machines out l t
+ready_on {a} {b} {machines} {list} {out} {l} {s} {t} r e m k = of_size (λ d. Ready d machines out l t) e
     (λ cells. record {
       sized = let z = r.sized in record { wide = z.wide; narrow = z.narrow; high = z.high; low = z.low };
       table = r.table;
@@ -61,7 +62,7 @@ ready_on {a} {b} {masks} {list} {out} {l} {s} {t} r e m k = of_size (λ d. Ready
     })
 
 -- a puzzle that the table is of has the board's size
-pub table_size : {z : Puzzle} {masks : List ℕ} (b : Board) → Table z b.w b.h masks → OfSize z b
+pub table_size : {z : Puzzle} {machines : List Machine} (b : Board) → Table z b.w b.h machines → OfSize z b
 table_size b t = record { wide = t.wide; high = t.high }
 
 -- ## Cells

@@ -29,13 +29,14 @@ use Rattle.rules.proofs.Room as Room
 use Rattle.rules.proofs.Room.{taken_waiting, others_waiting, first_unsolved-waiting, chosen_waiting}
 use Rattle.rules.proofs.Steps.{most_probing-few}
 use Rattle.rules.proofs.Bounds.{longest, TriedBounded, try_bounded}
+use Rattle.lines.specs.declared.machine.Machine.{Machine}
 use Rattle.runs.specs.declared.limits.Limits.{Limits as Given}
 use Rattle.runs.specs.Matches.{limits_of}
-use Rattle.backtracking.specs.Parts.{Went, died, went, after_set, set_guess, after_probe, probe_guess, refilled}
+use Rattle.backtracking.specs.Parts.{Went, died, went, after_set, set_guess, after_probe, probe_guess, Entered, ended_as, deeper_from, after_probing, after_setting, enter_guess, refilled}
 use Rattle.backtracking.specs.Setting.{Setting, Fine, Few, NodeFine, SpentFine}
 use Rattle.backtracking.specs.Comes.{depth_of, try_at}
 
-module _ {w h : ℕ} {masks : List ℕ} (g : Setting w h masks) where
+module _ {w h : ℕ} {machines : List Machine} (g : Setting w h machines) where
   pub fine_long : {b : Board} → Fine g b → length b ≡ w * h
   fine_long p = p.sized ∙ ap₂ (λ (u v : ℕ). u * v) g.table.wide g.table.high
 
@@ -122,6 +123,22 @@ module _ {w h : ℕ} {masks : List ℕ} (g : Setting w h masks) where
       go (probed a ns t) e i =
           let f : Fine g a × Few g (choose a ns) = (i.playable, subst (λ n. Room.Waiting most_colours n (choose a ns)) (fine_long p) (chosen_waiting g.puzzle most_colours b q s p.low e)) in
           on_test ProbeFine (solved a) (λ _. on_test ProbeFine (check g.puzzle a) (λ _. f) (λ _. tt)) (λ _. f)
+
+  -- where the search goes one deeper, and the guesses chosen there have room
+  abbrev pub EnteredFine : Entered → Type 0
+  EnteredFine (ended_as t) = Unit {0}
+  EnteredFine (deeper_from b gs t) = Fine g b × Few g gs
+
+  pub entered_fine : (l : Limits) (d : ℕ) (b : Board) (c : Cell) (x : Colour) (s : Run) → Fine g b → has (at b c) x ≡ true → EnteredFine (enter_guess g.puzzle l d b c x s)
+  entered_fine l d b c x s p k = go (set_guess g.puzzle b c x s) (set_fine b c x s p k)
+    where
+      probed : (v : Went (Board × Notes)) → ProbeFine v → EnteredFine (after_probing g.puzzle l d v)
+      probed (died t) f = tt
+      probed (went a t) f = on_number EnteredFine (met g.puzzle l t d) (λ _. on_test EnteredFine (solved a.0) (λ _. tt) (λ _. f)) (λ m _. tt)
+
+      go : (v : Went (Board × CellQueue)) → SetFine v → EnteredFine (after_setting g.puzzle l d v)
+      go (died t) f = tt
+      go (went a t) f = on_number EnteredFine (met g.puzzle l t d) (λ _. probed (probe_guess g.puzzle a.0 a.1 t) (probe_fine a.0 a.1 t f)) (λ m _. tt)
 
   -- ## What a guess comes to
 

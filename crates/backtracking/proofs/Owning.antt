@@ -1,8 +1,11 @@
 -- A node's own probing: a contradiction, a solved board that is stored, or a board to go on with.
-use mathlib.Core.Path.{◌≡◌, refl, sym, ap, subst, ◌∙◌}
-use mathlib.Core.Bool.{Bool, true, false, not}
+use mathlib.Core.Path.{◌≡◌, refl, sym, subst}
+use mathlib.Core.Bool.{Bool, true, false}
 use mathlib.Core.List.{List}
-use Prim.Native.Nat.{ℕ, ◌+◌, ◌*◌, ◌≤◌, ◌<◌}
+use Prim.Native.Nat.{ℕ, ◌≤◌, ◌<◌}
+use Rattle.std.specs.Prelude.{Option, None, Some, not, is_some, IfSome}
+use Rattle.std.specs.Option.{unwrap_or}
+use Rattle.std.specs.declared.ops.ControlFlow.TheVariants.{Continue, Break}
 use Rattle.rules.specs.Boards as Rules
 use Rattle.rules.specs.Boards.{Puzzle, solved}
 use Rattle.rules.specs.Propagation.{check}
@@ -11,91 +14,79 @@ use Rattle.rules.specs.Probing.{Run, contradiction, probed, probe, start_queue}
 use Rattle.rules.specs.Search.{dead, not_dead, store}
 use Rattle.rules.proofs.Tests.{on_test, clash}
 use Rattle.rules.proofs.Narrowing.{◌⊑◌}
-use Rattle.rules.proofs.Probing.{Quiet, ProbedBelow, probe_below}
+use Rattle.rules.proofs.Probing.{ProbedBelow, probe_below}
+use Rattle.lines.specs.declared.machine.Machine.{Machine}
 use Rattle.boards.specs.declared.board.Board.{Board}
-use Rattle.boards.specs.Board.{board_of, SameSize}
+use Rattle.boards.specs.Board.{board_of}
 use Rattle.runs.specs.declared.limits.Limits.{Limits}
 use Rattle.runs.specs.declared.limits.Stats.{Stats}
 use Rattle.runs.specs.Stats.{stepped}
-use Rattle.runs.proofs.Matches.{probed_matches}
-use Rattle.guesses.specs.declared.waiting.Guesses.{Guesses}
-use Rattle.probing.specs.Probing.{ProbedTo, Probes}
-use Rattle.backtracking.specs.Parts.{Went, died, went, checked_in, Own, ends, goes, own_of, own_probing}
-use Rattle.backtracking.specs.Setting.{Setting, RunIs, WentTo}
-use Rattle.backtracking.specs.Comes.{Stores, OwnTo, ProbesNode}
-use Rattle.backtracking.specs.declared.store.Stored.{Stored}
+use Rattle.notes.specs.declared.round.Notes.{Notes}
+use Rattle.probing.specs.Probing.{Probes}
 use Rattle.probing.specs.declared.rounds.Probed.{Probed}
-use Rattle.backtracking.specs.declared.node.Node.{Node}
-use Rattle.backtracking.specs.declared.node.Turned.{Turned}
-use Rattle.backtracking.specs.declared.node.OwnProbing.{OwnProbing}
+use Rattle.backtracking.specs.Parts.{Went, died, went, checked_in, Own, ends, goes, own_of, own_probing}
+use Rattle.backtracking.specs.Setting.{Setting, RunIs, KeptTo, OwnTo}
+use Rattle.backtracking.specs.Comes.{Stores, ProbesNode}
+use Rattle.backtracking.specs.declared.ended.Ended.{Ended}
 use Rattle.backtracking.proofs.Boarding.{size_same}
 use Rattle.backtracking.proofs.Storing.{stores_on}
+use Rattle.backtracking.proofs.Probing.{probing_none, probing_some, probing_size}
 
-module _ (b : Board) (masks list : List ℕ) (l : Limits) (s s₁ : Stats) (r : Probed) (few : s.grids ≤ l.grids) (step : s₁ ≡ stepped r.steps s) (p : Probes b (λ z. start_queue z (board_of b)) masks r) where
-  -- a contradiction, a board that is stored, and a board to go on with
-  abbrev fails : OwnProbing
-  fails = record { over = true; dead = true; board = b; stats = s₁ }
-
-  abbrev stored : Stored → OwnProbing
-  stored k = record { over = true; dead = not k.ok; board = r.board; stats = k.stats }
-
-  abbrev goes_on : OwnProbing
-  goes_on = record { over = false; dead = false; board = r.board; stats = s₁ }
-
-  -- what each end of the rules' probing comes to
-  abbrev Case : OwnProbing → List ℕ → Type 0
-  Case o out = (g : Setting b.w b.h masks) (t : Run) → s₁.grids < l.grids → (v : Probing.Probed) → ProbedTo r t v →
-      ((u : Run) → Quiet t u → Probing.steps u ≡ Probing.steps t + r.steps → RunIs g s₁ list u) → ProbedBelow g.puzzle (board_of b) t v → OwnTo g o out (own_of g.puzzle (board_of b) v)
-
-  owns : (o : OwnProbing) (out : List ℕ) → SameSize b o.board → o.stats.grids ≤ l.grids → Case o out → ProbesNode b masks list l s o out
-  unfolding own_probing
-  owns o out size k f = record {
-    size = size;
-    few = k;
-    to = λ g t m h. let q = start_queue g.puzzle (board_of b) in
-        f g t (subst (λ v. v.grids < l.grids) (sym step) h) (probe g.puzzle (board_of b) q t) (p.to g.puzzle g.table t)
-        (λ u i e. subst (λ v. RunIs g v list u) (sym step) (probed_matches (b.w * b.h) g.lent r.steps m i e))
-        (probe_below g.puzzle (board_of b) q t);
-  }
-
+module _ (b : Board) (machines : List Machine) (list : List ℕ) (l : Limits) (s s₁ : Stats) (r : Probed) (few : s.grids ≤ l.grids) (step : s₁ ≡ stepped r.steps s)
+    (p : Probes b (λ z. start_queue z (board_of b)) machines r) where
   steps_few : s₁.grids ≤ l.grids
   steps_few = subst (λ v. v.grids ≤ l.grids) (sym step) few
 
   -- a contradiction
-  pub own_dead : r.ok ≡ false → ProbesNode b masks list l s fails list
-  own_dead e = owns fails list (size_same b) steps_few go
-    where
-      go : Case fails list
-      go g t h (contradiction u) f m d = (refl, refl, refl, m u d f.1)
-      go g t h (probed a ns u) f m d = clash f.0 e
+  pub own_dead : r.end ≡ None → ProbesNode b machines list l s (Break (record { dead = true; board = b; stats = s₁ })) list
+  unfolding own_probing
+  own_dead e = record {
+    within = record { size = size_same b; few = steps_few };
+    to = λ g t m h. let i = probing_none list p s s₁ step e g t m in
+        subst (λ v. OwnTo g (Break (record { dead = true; board = b; stats = s₁ })) list (own_of g.puzzle (board_of b) v)) (sym i.ends) (refl, refl, i.is);
+  }
 
-  -- a solved board
-  pub own_stored : (k : Stored) (out : List ℕ) → r.ok ≡ true → solved (board_of r.board) ≡ true → Stores r.board masks list l s₁ k out (λ z. checked_in z) →
-      ProbesNode b masks list l s (stored k) out
-  own_stored k out e full keeps = owns (stored k) out p.size keeps.few go
-    where
-      both : (g : Setting b.w b.h masks) (a : Rules.Board) (u : Run) → board_of r.board ≡ a → (v : Bool) →
-          WentTo g {A = Unit {0}} (λ _. Unit {0}) (not k.ok) k.stats out (elim v as (λ _. Went (Unit {0})) [ true ↦ went (tt {0}) (store a u) | false ↦ died u ]) →
-          OwnTo g (stored k) out (elim v as (λ _. Own) [ true ↦ ends not_dead a (store a u) | false ↦ ends dead a u ])
-      both g a u q true (d, i, m) = (refl, d, q, m)
-      both g a u q false (d, m) = (refl, d, q, m)
+  module _ {a : Board} {ns : Notes} (e : r.end ≡ Some (a, ns)) where
+    -- a solved board: the node is dead where nothing was kept
+    pub own_stored : (k : Option Stats) (isdead : Bool) (after : Stats) (out : List ℕ) → is_some k ≡ not isdead → after ≡ unwrap_or k s₁ → solved (board_of a) ≡ true →
+        Stores a machines list l s₁ k out (λ z. checked_in z) → ProbesNode b machines list l s (Break (record { dead = isdead; board = a; stats = after })) out
+    unfolding own_probing
+    own_stored k isdead after out f u full keeps = record {
+      within = record { size = probing_size p e; few = few_kept k u keeps.few };
+      to = λ g t m h. let i = probing_some list p s s₁ step e g t m in
+          subst (λ v. OwnTo g (Break (end isdead after)) out (own_of g.puzzle (board_of b) v)) (sym i.ends)
+          (on_test (OwnTo g (Break (end isdead after)) out) (solved (board_of a))
+          (λ _. both g i.run k (check g.puzzle (board_of a)) isdead after f u
+          (stores_on (λ z. checked_in z) (probing_size p e) keeps g i.run i.is (subst (λ v. v.grids < l.grids) (sym step) h)))
+          (λ q. clash full q));
+    }
+      where
+        end : Bool → Stats → Ended
+        end v n = record { dead = v; board = a; stats = n }
 
-      go : Case (stored k) out
-      go g t h (contradiction u) f m d = clash e f.0
-      go g t h (probed a ns u) f m d = on_test (OwnTo g (stored k) out) (solved a)
-          (λ _. both g a u f.1 (check g.puzzle a)
-          (subst (λ c. WentTo g (λ _. Unit {0}) (not k.ok) k.stats out (checked_in g.puzzle c (tt {0}) u)) f.1 (stores_on (λ z. checked_in z) p.size keeps g u (m u d.1 f.3) h)))
-          (λ q. clash (ap solved (sym f.1) ∙ full) q)
+        few_kept : (k : Option Stats) → after ≡ unwrap_or k s₁ → IfSome k (λ v. v.grids ≤ l.grids) → after.grids ≤ l.grids
+        few_kept None u h = subst (λ (v : Stats). v.grids ≤ l.grids) (sym u) steps_few
+        few_kept (Some v) u h = subst (λ (v : Stats). v.grids ≤ l.grids) (sym u) h
 
-  -- a board to go on with
-  pub own_on : r.ok ≡ true → solved (board_of r.board) ≡ false → ProbesNode b masks list l s goes_on list
-  own_on e part = owns goes_on list p.size steps_few go
-    where
-      go : Case goes_on list
-      go g t h (contradiction u) f m d = clash e f.0
-      go g t h (probed a ns u) f m d = on_test (OwnTo g goes_on list) (solved a)
-          (λ q. clash q (ap solved (sym f.1) ∙ part))
-          (λ _. (refl, f.1, m u d.1 f.3))
+        both : (g : Setting b.w b.h machines) (t : Run) (k : Option Stats) (v w : Bool) (n : Stats) → is_some k ≡ not w → n ≡ unwrap_or k s₁ →
+            KeptTo g s₁ k out (elim v as (λ _. Went (Unit {0})) [ true ↦ went (tt {0}) (store (board_of a) t) | false ↦ died t ]) →
+            OwnTo g (Break (end w n)) out (elim v as (λ _. Own) [ true ↦ ends not_dead (board_of a) (store (board_of a) t) | false ↦ ends dead (board_of a) t ])
+        both g t None true w n f u m = absurd m
+        both g t (Some v) true true n f u m = cc
+        both g t (Some v) true false n f u m = (refl, refl, subst (λ n. RunIs g n out (store (board_of a) t)) (sym u) m)
+        both g t None false true n f u m = (refl, refl, subst (λ n. RunIs g n out t) (sym u) m)
+        both g t None false false n f u m = cc
+        both g t (Some v) false w n f u m = absurd m
+
+    -- a board to go on with
+    pub own_on : solved (board_of a) ≡ false → ProbesNode b machines list l s (Continue (a, s₁)) list
+    unfolding own_probing
+    own_on part = record {
+      within = record { size = probing_size p e; few = steps_few };
+      to = λ g t m h. let i = probing_some list p s s₁ step e g t m in
+          subst (λ v. OwnTo g (Continue (a, s₁)) list (own_of g.puzzle (board_of b) v)) (sym i.ends)
+          (on_test (OwnTo g (Continue (a, s₁)) list) (solved (board_of a)) (λ q. clash q part) (λ _. (refl, i.is)));
+    }
 
 -- the board that a node's own probing goes on with is narrower
 abbrev pub OwnBelow : Rules.Board → Own → Type 0
@@ -109,7 +100,3 @@ own_below z b s = go (probe z b (start_queue z b) s) (probe_below z b (start_que
     go : (v : Probing.Probed) → ProbedBelow z b s v → OwnBelow b (own_of z b v)
     go (contradiction u) d = tt
     go (probed a ns u) d = on_test (OwnBelow b) (solved a) (λ _. on_test (OwnBelow b) (check z a) (λ _. tt) (λ _. tt)) (λ _. d.0)
-
--- a node with the board and the counts that its own probing left, and other guesses
-abbrev pub after_own_lem : Node → Guesses → OwnProbing → Turned
-after_own_lem t rest o = record { over = o.over; dead = o.dead; node = record { board = o.board; guesses = rest; probed = true; made = t.made; stats = o.stats } }

@@ -9,45 +9,54 @@ use Rattle.rules.specs.Sets.{Colour, has, single, empty, colours}
 use Rattle.rules.specs.Boards.{Board, Cell, at, put, remove, solved, newly, Puzzle}
 use Rattle.rules.specs.Propagation.{propagate, check}
 use Rattle.rules.specs.Probing.{guessed, Run, event, CellQueue, start_queue, push_both, Notes, Probed, contradiction, probed, probe}
-use Rattle.rules.specs.Guesses.{Guess, guess}
-use Rattle.rules.specs.Search.{Limits, End, dead, not_dead, Left, left, Tried, tried, Node, node, Spent, spent, Pass, over, ran_out, note, store, others, any_closed, first_unsolved, met}
+use Rattle.rules.specs.Guesses.{Guess, guess, choose}
+use Rattle.rules.specs.Search.{Limits, End, dead, not_dead, Left, left, Tried, tried, Node, node, Spent, spent, Pass, over, ran_out, note, store, others, any_closed, first_unsolved, ended, met}
 use Rattle.rules.specs.Search.{probed_node, probe_node, lone, after_guess, pass_step, pass, again, spent_step, refill, after_pass, guess_deeper, guess_probed, guess_ask, guess_set, try_guess}
 use Rattle.rules.proofs.Ends.{refill_turn}
-use Rattle.backtracking.specs.Parts.{Went, died, went, after_set, set_guess, after_probe, probe_guess, ends, goes, own_of, own_probing, after_own, Before, turned, tries, lone_guess, before, refilled, after}
+use Rattle.backtracking.specs.Parts.{died, went, after_set, set_guess, after_probe, probe_guess, Entered, ended_as, deeper_from, after_probing, after_setting, enter_guess, ends, goes, own_of, own_probing, after_own, Before, turned, tries, lone_guess, before, refilled, after}
 
 module _ (z : Puzzle) (l : Limits) (deep : Board → List Guess → Run → Left) (d : ℕ) where
-  -- after the probing
-  abbrev pub after_probing : Went (Board × Notes) → Tried
-  after_probing (died s) = tried dead s
-  after_probing (went p s) = guess_deeper z l deep d p.0 p.1 s
+  -- what a guess comes to, with the search one deeper
+  abbrev pub after_entering : Entered → Tried
+  after_entering (ended_as t) = t
+  after_entering (deeper_from b gs s) = ended (deep b gs s)
 
-  -- after the colour is set: limits are asked, then it is probed
-  abbrev pub after_setting : Went (Board × CellQueue) → Tried
-  after_setting (died s) = tried dead s
-  after_setting (went p s) = elim (met z l s d) [ suc m ↦ tried not_dead (note (suc m) s) | zero ↦ after_probing (probe_guess z p.0 p.1 s) ]
+  deeper_is : (b : Board) (ns : Notes) (s : Run) → guess_deeper z l deep d b ns s ≡ after_entering (after_probing z l d (went (b, ns) s))
+  deeper_is b ns s = go (met z l s d) (solved b)
+    where
+      go : (m : ℕ) (v : Bool) → ◌≡◌ {A = Tried} (elim m [ suc k ↦ tried not_dead (note (suc k) s) | zero ↦ elim v [ true ↦ tried not_dead s | false ↦ ended (deep b (choose b ns) s) ] ])
+          (after_entering (elim m [ suc k ↦ ended_as (tried not_dead (note (suc k) s)) | zero ↦ elim v [ true ↦ ended_as (tried not_dead s) | false ↦ deeper_from b (choose b ns) s ] ]))
+      go (suc k) v = refl
+      go zero true = refl
+      go zero false = refl
 
-  probing_is : (b : Board) (q : CellQueue) (s : Run) → guess_probed z l deep d (probe z b q s) ≡ after_probing (probe_guess z b q s)
+  probing_is : (b : Board) (q : CellQueue) (s : Run) → guess_probed z l deep d (probe z b q s) ≡ after_entering (after_probing z l d (probe_guess z b q s))
   unfolding probe_guess
   probing_is b q s = go (probe z b q s)
     where
-      go : (r : Probed) → guess_probed z l deep d r ≡ after_probing (after_probe z r)
+      go : (r : Probed) → guess_probed z l deep d r ≡ after_entering (after_probing z l d (after_probe z r))
       go (contradiction t) = refl
       go (probed a ns t) = then (solved a) (check z a)
         where
           then : (u v : Bool) → ◌≡◌ {A = Tried} (elim u [ true ↦ elim v [ true ↦ guess_deeper z l deep d a ns (store a t) | false ↦ tried dead t ] | false ↦ guess_deeper z l deep d a ns t ])
-              (after_probing (elim u [ true ↦ elim v [ true ↦ went (a, ns) (store a t) | false ↦ died t ] | false ↦ went (a, ns) t ]))
-          then true true = refl
+              (after_entering (after_probing z l d (elim u [ true ↦ elim v [ true ↦ went (a, ns) (store a t) | false ↦ died t ] | false ↦ went (a, ns) t ])))
+          then true true = deeper_is a ns (store a t)
           then true false = refl
-          then false v = refl
+          then false v = deeper_is a ns t
 
-  ask_is : (b : Board) (q : CellQueue) (s : Run) → guess_ask z l deep d b q s ≡ after_setting (went (b, q) s)
-  ask_is b q s = ap (λ (t : Tried). elim (met z l s d) as (λ _. Tried) [ suc m ↦ tried not_dead (note (suc m) s) | zero ↦ t ]) (probing_is b q s)
+  ask_is : (b : Board) (q : CellQueue) (s : Run) → guess_ask z l deep d b q s ≡ after_entering (after_setting z l d (went (b, q) s))
+  ask_is b q s = ap (λ (t : Tried). elim (met z l s d) as (λ _. Tried) [ suc m ↦ tried not_dead (note (suc m) s) | zero ↦ t ]) (probing_is b q s) ∙ go (met z l s d) (after_probing z l d (probe_guess z b q s))
+    where
+      go : (m : ℕ) (o : Entered) → ◌≡◌ {A = Tried} (elim m [ suc k ↦ tried not_dead (note (suc k) s) | zero ↦ after_entering o ])
+          (after_entering (elim m [ suc k ↦ ended_as (tried not_dead (note (suc k) s)) | zero ↦ o ]))
+      go (suc k) o = refl
+      go zero o = refl
 
-  pub try_is : (b : Board) (c : Cell) (x : Colour) (s : Run) → try_guess z l deep d b c x s ≡ after_setting (set_guess z b c x s)
+  pub try_is : (b : Board) (c : Cell) (x : Colour) (s : Run) → try_guess z l deep d b c x s ≡ after_entering (enter_guess z l d b c x s)
   unfolding try_guess set_guess
   try_is b c x s = go (put b c x) (start_queue z b) (event (guessed c x) s) (propagate z (put b c x) c)
     where
-      go : (a : Board) (q : CellQueue) (t : Run) (r : Option Board) → guess_set z l deep d a c q t r ≡ after_setting (after_set z a c q t r)
+      go : (a : Board) (q : CellQueue) (t : Run) (r : Option Board) → guess_set z l deep d a c q t r ≡ after_entering (after_setting z l d (after_set z a c q t r))
       go a q t none = refl
       go a q t (some e) = then (solved e) (check z e)
         where
@@ -55,7 +64,7 @@ module _ (z : Puzzle) (l : Limits) (deep : Board → List Guess → Run → Left
           p = push_both z e c (newly a e) q
 
           then : (u v : Bool) → ◌≡◌ {A = Tried} (elim u [ true ↦ elim v [ true ↦ guess_ask z l deep d e p (store e t) | false ↦ tried dead t ] | false ↦ guess_ask z l deep d e p t ])
-              (after_setting (elim u [ true ↦ elim v [ true ↦ went (e, p) (store e t) | false ↦ died t ] | false ↦ went (e, p) t ]))
+              (after_entering (after_setting z l d (elim u [ true ↦ elim v [ true ↦ went (e, p) (store e t) | false ↦ died t ] | false ↦ went (e, p) t ])))
           then true true = ask_is e p (store e t)
           then true false = refl
           then false v = ask_is e p t

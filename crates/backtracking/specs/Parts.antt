@@ -6,8 +6,8 @@ use Rattle.rules.specs.Sets.{Colour, has, single, empty, colours}
 use Rattle.rules.specs.Boards.{Board, Cell, at, put, remove, solved, newly, Puzzle}
 use Rattle.rules.specs.Propagation.{propagate, check}
 use Rattle.rules.specs.Probing.{guessed, Run, event, CellQueue, start_queue, push_both, Notes, Probed, contradiction, probed, probe}
-use Rattle.rules.specs.Guesses.{Guess, guess}
-use Rattle.rules.specs.Search.{Limits, End, dead, not_dead, Left, left, Node, node, Spent, spent, Pass, over, note, store, met, others, any_closed, first_unsolved}
+use Rattle.rules.specs.Guesses.{Guess, guess, choose}
+use Rattle.rules.specs.Search.{Limits, End, dead, not_dead, Left, left, Tried, tried, Node, node, Spent, spent, Pass, over, note, store, met, others, any_closed, first_unsolved}
 
 -- ## A guess: its colour is set, then it is probed, then the search goes one deeper
 
@@ -40,6 +40,28 @@ module _ (z : Puzzle) where
   -- the probing inside the guess, M2 with it
   unfoldable pub probe_guess : Board → CellQueue → Run → Went (Board × Notes)
   probe_guess b q s = after_probe (probe z b q s)
+
+-- a guess before the search one deeper: it has ended, or the search goes on from a board and its chosen guesses
+pub data Entered : Type 0 where
+  ended_as : Tried → Entered
+  deeper_from : Board → List Guess → Run → Entered
+
+module _ (z : Puzzle) (l : Limits) (d : ℕ) where
+  -- after the probing limits are asked, and a solved board ends the guess
+  abbrev pub after_probing : Went (Board × Notes) → Entered
+  after_probing (died s) = ended_as (tried dead s)
+  after_probing (went p s) = elim (met z l s d) [
+    | suc m ↦ ended_as (tried not_dead (note (suc m) s))
+    | zero ↦ elim (solved p.0) [ true ↦ ended_as (tried not_dead s) | false ↦ deeper_from p.0 (choose p.0 p.1) s ]
+  ]
+
+  -- after the colour is set limits are asked, and then it is probed
+  abbrev pub after_setting : Went (Board × CellQueue) → Entered
+  after_setting (died s) = ended_as (tried dead s)
+  after_setting (went p s) = elim (met z l s d) [ suc m ↦ ended_as (tried not_dead (note (suc m) s)) | zero ↦ after_probing (probe_guess z p.0 p.1 s) ]
+
+  abbrev pub enter_guess : Board → Cell → Colour → Run → Entered
+  enter_guess b c x s = after_setting (set_guess z b c x s)
 
 -- whether an end is dead
 abbrev pub is_dead : End → Bool

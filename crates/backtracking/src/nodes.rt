@@ -1,50 +1,19 @@
 // The search itself: `search` goes through a node's guesses, `try_direction` tries one of them and searches one deeper.
-ghost use Rattle.std.specs.Prelude.{◌≡◌, false, ◌+◌, ◌*◌, ◌≤◌, ◌<◌};
+ghost use Rattle.std.specs.Prelude.{◌≡◌, ◌+◌, ◌*◌, ◌≤◌, ◌<◌};
 ghost use Rattle.rules.specs.Answers.{most_waiting};
-ghost use Rattle.runs.specs.Stats.{noted};
 ghost use Rattle.backtracking.specs.Setting.{Ready};
 ghost use Rattle.backtracking.specs.Comes.{NodeStands, SearchStands, GuessStands, Searches, Passes, Turns, Tries};
 
-use crate::guess::{probe_guess, set_guess};
-use crate::node::{Node, Turned, after_guess, before_guess, goes_on, refill};
+use crate::ended::{Ended, ask};
+use crate::guess::enter_guess;
+use crate::node::{Node, after_guess, before_guess, refill};
+use crate::task::Task;
 use boards::Board;
-use cells::{CellNo, Colour};
-use guesses::{Guesses, choose_directions};
+use guesses::{Guess, Guesses};
 use rules::MOST_WAITING;
-use runs::{Limits, Stats, limits_reached};
-
-// How a guess or a node ended: whether it is dead, the board as it left it, and the counts.
-#[derive(Clone, Copy)]
-pub struct Ended {
-    pub dead: bool,
-    pub board: Board,
-    pub stats: Stats,
-}
-
-// A node that has turned, and is over.
-fn leave(t: Turned) -> Ended
-    ensures { result ≡ record { dead = t.dead; board = t.node.board; stats = t.node.stats } }
-{
-    let n = t.node;
-    let b = n.board;
-    let s = n.stats;
-    Ended {
-        dead: t.dead,
-        board: b,
-        stats: s,
-    }
-}
-
-// A limit is met: it is noted, and what it ends is not dead.
-fn limited(board: Board, stats: Stats, m: u8) -> Ended
-    ensures { result ≡ record { dead = false; board = board; stats = noted m stats } }
-{
-    Ended {
-        dead: false,
-        board,
-        stats: stats.noted(m),
-    }
-}
+use runs::Stats;
+use std::ops::ControlFlow;
+use std::ops::ControlFlow::{Break, Continue};
 
 // The search at a node with its chosen guesses; `left` is how much deeper it may go, so that its depth is one more than the most depth, less that.
 #[cycle(search_search_mutable_try_direction_turn)]
@@ -52,18 +21,16 @@ pub fn search(
     board: Board,
     waiting: Guesses,
     list: &mut [u8],
-    masks: &[u32],
     stats: Stats,
-    l: Limits,
+    task: Task,
     left: usize,
 ) -> Ended
-    requires { Ready board masks.now list.old l stats × (waiting.head ≤ most_waiting) × (left ≤ l.depth + 1) × SearchStands board waiting masks.now list.old stats }
-    ensures { Searches board waiting masks.now list.old l left stats result list.new }
+    requires { Ready board task.machines.now list.old task.limits stats × (waiting.head ≤ most_waiting) × (left ≤ task.limits.depth + 1) × SearchStands board waiting task.machines.now list.old stats }
+    ensures { Searches board waiting task.entry.machines.now list.old task.entry.limits left stats result list.new }
 {
-    let depth = l.depth + 1 - left;
-    let m = limits_reached(stats, l, depth);
-    if m != 0 {
-        return limited(board, stats, m);
+    let depth = task.limits.depth + 1 - left;
+    if let Break(end) = ask(board, stats, task.limits, depth) {
+        return end;
     }
     let begun = Node {
         board,
@@ -72,127 +39,76 @@ pub fn search(
         made: [0; 256],
         stats: stats.deeper(depth),
     };
-    let p = search_mutable(begun, &mut *list, masks, l, left);
-    if p.over {
-        return leave(p);
-    }
-    let mut t = p.node;
+    let mut spent = match search_mutable(begun, &mut *list, task, left) {
+        Continue(n) => n,
+        Break(end) => return end,
+    };
     loop {
-        let q = refill(t, l, depth);
-        if q.over {
-            return leave(q);
-        }
-        let n = q.node;
-        let u = search_mutable(n, &mut *list, masks, l, left);
-        if u.over {
-            return leave(u);
-        }
-        t = u.node;
+        let node = match refill(spent, task.limits, depth) {
+            Continue(n) => n,
+            Break(end) => return end,
+        };
+        spent = match search_mutable(node, &mut *list, task, left) {
+            Continue(n) => n,
+            Break(end) => return end,
+        };
     }
 }
 
-// A pass over the guesses that wait; it is not over when they have run out.
+// A pass over the guesses that wait; the node goes on when they have run out.
 #[cycle(search_search_mutable_try_direction_turn)]
-fn search_mutable(node: Node, list: &mut [u8], masks: &[u32], l: Limits, left: usize) -> Turned
-    requires { Ready node.board masks.now list.old l node.stats × (node.guesses.head ≤ most_waiting) × (1 ≤ left) × (left ≤ l.depth + 1) × NodeStands node masks.now list.old }
-    ensures { Passes node masks.now list.old l left result list.new }
+fn search_mutable(
+    mut node: Node,
+    list: &mut [u8],
+    task: Task,
+    left: usize,
+) -> ControlFlow<Ended, Node>
+    requires { Ready node.board task.machines.now list.old task.limits node.stats × (node.guesses.head ≤ most_waiting) × (1 ≤ left) × (left ≤ task.limits.depth + 1) × NodeStands node task.machines.now list.old }
+    ensures { Passes node task.entry.machines.now list.old task.entry.limits left result list.new }
 {
-    let mut t = node;
-    while t.guesses.head < MOST_WAITING {
-        let u = turn(t, &mut *list, masks, l, left);
-        if u.over {
-            return u;
-        }
-        t = u.node;
+    while node.guesses.head < MOST_WAITING {
+        node = turn(node, &mut *list, task, left)?;
     }
-    goes_on(t)
+    Continue(node)
 }
 
 // The next guess: limits are asked before it, and the board is restored after it.
 #[cycle(search_search_mutable_try_direction_turn)]
-fn turn(node: Node, list: &mut [u8], masks: &[u32], l: Limits, left: usize) -> Turned
-    requires { Ready node.board masks.now list.old l node.stats × (node.guesses.head < most_waiting) × (1 ≤ left) × (left ≤ l.depth + 1) × NodeStands node masks.now list.old }
-    ensures { Turns node masks.now list.old l left result list.new }
+fn turn(node: Node, list: &mut [u8], task: Task, left: usize) -> ControlFlow<Ended, Node>
+    requires { Ready node.board task.machines.now list.old task.limits node.stats × (node.guesses.head < most_waiting) × (1 ≤ left) × (left ≤ task.limits.depth + 1) × NodeStands node task.machines.now list.old }
+    ensures { Turns node task.entry.machines.now list.old task.entry.limits left result list.new }
 {
-    let depth = l.depth + 1 - left;
-    let begun = before_guess(node, &mut *list, masks, l, depth);
-    let turned = begun.turned;
-    if !begun.tries {
-        return turned;
-    }
-    let t = turned.node;
-    let c = begun.cell;
-    let x = begun.colour;
-    let saved = t.board;
-    let waiting = t.guesses;
-    let made = t.made;
-    let stats = t.stats;
-    let r = try_direction(saved, c, x, &mut *list, masks, stats, l, left - 1);
-    let b = r.board;
-    let s = r.stats;
-    let back = Node {
-        board: b.restore(saved),
-        guesses: waiting,
-        probed: t.probed,
-        made,
-        stats: s,
+    let depth = task.limits.depth + 1 - left;
+    let (t, next) = before_guess(node, &mut *list, task, depth)?;
+    let Some(guess) = next else {
+        return Continue(t);
     };
-    after_guess(back, c, x, r.dead, list, masks, s, l)
+    let saved = t.board;
+    let r = try_direction(saved, guess, &mut *list, t.stats, task, left - 1);
+    let back = Node {
+        board: r.board.restore(saved),
+        stats: r.stats,
+        ..t
+    };
+    after_guess(back, guess, r.dead, list, task)
 }
 
 // One guess, at its own depth.
 #[cycle(search_search_mutable_try_direction_turn)]
 pub fn try_direction(
     board: Board,
-    c: CellNo,
-    x: Colour,
+    guess: Guess,
     list: &mut [u8],
-    masks: &[u32],
     stats: Stats,
-    l: Limits,
+    task: Task,
     left: usize,
 ) -> Ended
-    requires { Ready board masks.now list.old l stats × (c.0 < board.w * board.h) × (x.0 < 8) × (stats.steps < l.budget) × (stats.grids < l.grids) × (left ≤ l.depth) × GuessStands board c.0 x.0 masks.now list.old stats }
-    ensures { Tries board c.0 x.0 masks.now list.old l left stats result list.new }
+    requires { Ready board task.machines.now list.old task.limits stats × (guess.cell.0 < board.w * board.h) × (guess.colour.0 < 8) × (stats.steps < task.limits.budget) × (stats.grids < task.limits.grids) × (left ≤ task.limits.depth) × GuessStands board guess.cell.0 guess.colour.0 task.machines.now list.old stats }
+    ensures { Tries board guess.cell.0 guess.colour.0 task.entry.machines.now list.old task.entry.limits left stats result list.new }
 {
-    let depth = l.depth + 1 - left;
-    let g = set_guess(board, c, x, &mut *list, masks, stats, l);
-    let a = g.board;
-    let queue = g.queue;
-    let s = g.stats;
-    if g.dead {
-        return Ended {
-            dead: true,
-            board: a,
-            stats: s,
-        };
+    let depth = task.limits.depth + 1 - left;
+    match enter_guess(board, guess, &mut *list, stats, task, depth) {
+        Continue((b, waiting, s)) => search(b, waiting, list, s, task, left),
+        Break(end) => end,
     }
-    let m = limits_reached(s, l, depth);
-    if m != 0 {
-        return limited(a, s, m);
-    }
-    let p = probe_guess(a, queue, &mut *list, masks, s, l);
-    let b = p.board;
-    let notes = p.notes;
-    let e = p.stats;
-    if p.dead {
-        return Ended {
-            dead: true,
-            board: b,
-            stats: e,
-        };
-    }
-    let k = limits_reached(e, l, depth);
-    if k != 0 {
-        return limited(b, e, k);
-    }
-    if b.is_solved_full() {
-        return Ended {
-            dead: false,
-            board: b,
-            stats: e,
-        };
-    }
-    let waiting = choose_directions(b, notes);
-    search(b, waiting, list, masks, e, l, left)
 }

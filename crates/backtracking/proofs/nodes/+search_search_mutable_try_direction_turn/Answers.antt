@@ -1,220 +1,129 @@
-use Rattle.std.proofs.Common.{◌≡◌, sym, subst, ◌∙◌, ℕ, ◌*◌, ◌≤◌, ◌<◌, arith}
-use borrow.Author.Tests.{not-true, not-false}
+use mathlib.Core.Path.{sym, subst, ◌∙◌}
+use Prim.Native.Nat.{◌*◌, ◌<◌}
+use native.Mathlib.Omega.{arith}
 use Rattle.runs.specs.declared.limits.Stats.{Stats}
-use Rattle.backtracking.specs.Comes.{depth_of}
-use Rattle.backtracking.proofs.Boarding.{size_more, sized_on, size_at, ready_on}
-use Rattle.backtracking.proofs.Asking.{limit_none}
-use Rattle.backtracking.proofs.Turning.{turn_turned, guess_stands, tried_steps, back_size, turn_tried}
-use Rattle.backtracking.proofs.Passing.{passing_starts, passing_stands, passing_on, passing_over, passing_done, turn_less}
-use Rattle.backtracking.proofs.Seeking.{begun, rested_starts, rested_on, Seeking, Resting, rest_less}
-use Rattle.backtracking.proofs.Seeking.{seek_limited, seek_begins, seek_stands, seek_over, seek_rests, rest_over, rest_seeks, resting_now}
-use Rattle.backtracking.proofs.Trying.{set_died, set_limited, probe_died, probed_limited, probed_solved, deeper_stands, deeper_tried}
+use Rattle.backtracking.proofs.Boarding.{size_at, ready_on}
+use Rattle.backtracking.proofs.Trying.{try_over, deeper_stands, deeper_tried}
+use Rattle.backtracking.proofs.Passing.{passing_stands, passing_on, passing_over, passing_done, turn_less}
+use Rattle.backtracking.proofs.Turning.{turn_over, turn_skipped, guess_stands, tried_steps, back_size, turn_tried}
+use Rattle.backtracking.proofs.Seeking.{some_left, seek_limited, seek_begins, seek_stands, seek_over, seek_rests, rest_over, rest_seeks, rest_less}
 use Rattle.backtracking.proofs.nodes.+search_search_mutable_try_direction_turn.Goals as goal
-use Rattle.backtracking.proofs.nodes.+search_search_mutable_try_direction_turn.Goals.{search-After-search_mutable-arg-1, search-After-search_mutable-arg-in-loop-l-1, search-At-loop-l}
 
 -- ## The search
 
-pub search-overflow_add-depth : goal.search-overflow_add-depth
-search-overflow_add-depth t c = omega (arith, c.requires.0.depth)
-
-pub search-overflow_sub-depth : goal.search-overflow_sub-depth
-search-overflow_sub-depth t c = omega (arith, c.requires.2)
-
-pub search-returns-then-m-ne0 : goal.search-returns-then-m-ne0
-search-returns-then-m-ne0 t c =
-    seek_limited c.limits_reached-m.result c.limited.ensures c.limits_reached-m.ensures c.if-m-ne0.true c.requires.0.few
-
-pub search-deeper-requires : goal.search-deeper-requires
-search-deeper-requires t c = omega (arith, c.requires.0.depth)
-
--- no limit is met, so that the search may go deeper
-some_left : (t : ℕ) (c : search-After-search_mutable-arg-1 t) → 1 ≤ c.args.left
-some_left t c = let a = c.args in let k = (limit_none a.stats a.l (depth_of a.l a.left) (sym c.limits_reached-m.ensures ∙ c.if-m-ne0.false)).2 in omega (arith, c.requires.2)
+pub search-returns-in-Break : goal.search-returns-in-Break
+search-returns-in-Break t c = seek_limited c.requires.0.few c.in-Break.ensures
 
 -- the node begins with the guesses that were chosen
-begins : (t : ℕ) (c : search-After-search_mutable-arg-1 t) →
-    let a = c.args in Seeking a.board a.waiting a.masks.now a.list.now a.l a.left a.stats (begun a.board a.waiting c.deeper.result) a.list.now
-begins t c =
-    seek_begins c.deeper.ensures (sym c.limits_reached-m.ensures ∙ c.if-m-ne0.false) (some_left t c) c.requires.2 c.requires.0.few c.requires.1
-
-pub search-search_mutable-p-requires : goal.search-search_mutable-p-requires
-search-search_mutable-p-requires t c =
+pub search-search_mutable-requires : goal.search-search_mutable-requires
+search-search_mutable-requires t c =
     let y = c.requires in
-    let i = begins t (goal.at.search-search_mutable-p-requires t c).After-search_mutable-arg-1 in
-    (omega (arith, c.decreases), (ready_on y.0 i.size i.long i.few, i.within, some_left t (goal.at.search-search_mutable-p-requires t c).After-search_mutable-arg-1, y.2, seek_stands i y.3))
+    let free = c.in_default.ensures.is in
+    let i = seek_begins c.deeper.ensures free y.2 y.0.few y.1 in
+    (omega (arith, c.decreases), (ready_on y.0 i.size i.long i.few, i.within, some_left _ _ _ free y.2, y.2, seek_stands i y.3))
 
-pub search-returns-then-p : goal.search-returns-then-p
-search-returns-then-p t c = seek_over (begins t (goal.at.search-returns-then-p t c).After-search_mutable-arg-1) c.search_mutable-p.ensures c.leave.ensures c.if-p.true
+pub search-returns-in-Break-search_mutable : goal.search-returns-in-Break-search_mutable
+search-returns-in-Break-search_mutable t c =
+    let y = c.requires in seek_over (seek_begins c.deeper.ensures c.in_default.ensures.is y.2 y.0.few y.1) c.in-Break-search_mutable.ensures
 
-pub search-loop-l-init : goal.search-loop-l-init
-search-loop-l-init t c = let m = c.search_mutable-p.ensures in rested_starts m.few m.within
+pub search-loop-n-init : goal.search-loop-n-init
+search-loop-n-init t c =
+    let y = c.requires in seek_rests (seek_begins c.deeper.ensures c.in_default.ensures.is y.2 y.0.few y.1) c.in-Continue.ensures c.search_mutable.auto.list
 
--- it rests after each pass
-rests : (t : ℕ) (c : search-At-loop-l t) →
-    let a = c.args in Resting a.board a.waiting a.masks.now a.list.now a.l a.left a.stats c.loop-l.t c.loop-l.list
-rests t c =
-    resting_now (seek_rests (seek_begins c.deeper.ensures (sym c.limits_reached-m.ensures ∙ c.if-m-ne0.false) (let a = c.args in let k = (limit_none a.stats a.l (depth_of a.l a.left) (sym c.limits_reached-m.ensures ∙ c.if-m-ne0.false)).2 in omega (arith, c.requires.2)) c.requires.2 c.requires.0.few c.requires.1) c.search_mutable-p.ensures c.if-p.false c.search_mutable-p.auto.list) c.loop-l.invariant
-
-pub search-refill-q-requires : goal.search-refill-q-requires
-search-refill-q-requires t c = let r = rests t (goal.at.search-refill-q-requires t c).At-loop-l in (sized_on r.size c.requires.0.sized, r.few, r.within)
-
-pub search-returns-then-q : goal.search-returns-then-q
-search-returns-then-q t c = rest_over (rests t (goal.at.search-returns-then-q t c).At-loop-l) (c.refill-q.ensures _ _) c.leave-then-q.ensures c.if-q.true
+pub search-returns-in-Break-refill : goal.search-returns-in-Break-refill
+search-returns-in-Break-refill t c = rest_over c.loop-n.invariant (c.in-Break-refill.ensures _ _)
 
 -- and begins anew with new guesses
-seeks : (t : ℕ) (c : search-After-search_mutable-arg-in-loop-l-1 t) →
-    let a = c.args in Seeking a.board a.waiting a.masks.now a.list.now a.l a.left a.stats c.refill-q.result.node c.loop-l.list
-seeks t c =
-    rest_seeks (resting_now (seek_rests (seek_begins c.deeper.ensures (sym c.limits_reached-m.ensures ∙ c.if-m-ne0.false) (let a = c.args in let k = (limit_none a.stats a.l (depth_of a.l a.left) (sym c.limits_reached-m.ensures ∙ c.if-m-ne0.false)).2 in omega (arith, c.requires.2)) c.requires.2 c.requires.0.few c.requires.1) c.search_mutable-p.ensures c.if-p.false c.search_mutable-p.auto.list) c.loop-l.invariant) (c.refill-q.ensures _ _) c.if-q.false
-
-pub search-search_mutable-u-requires : goal.search-search_mutable-u-requires
-search-search_mutable-u-requires t c =
+pub search-search_mutable-requires-in-loop-n : goal.search-search_mutable-requires-in-loop-n
+search-search_mutable-requires-in-loop-n t c =
     let y = c.requires in
-    let i = seeks t (goal.at.search-search_mutable-u-requires t c).After-search_mutable-arg-in-loop-l-1 in
-    (omega (arith, c.decreases), (ready_on y.0 i.size i.long i.few, i.within, some_left t (goal.at.search-search_mutable-u-requires t c).After-search_mutable-arg-1, y.2, seek_stands i y.3))
+    let i = rest_seeks c.loop-n.invariant (c.in-Continue-refill.ensures _ _) in
+    (omega (arith, c.decreases), (ready_on y.0 i.size i.long i.few, i.within, some_left _ _ _ c.in_default.ensures.is y.2, y.2, seek_stands i y.3))
 
-pub search-returns-then-u : goal.search-returns-then-u
-search-returns-then-u t c = seek_over (seeks t (goal.at.search-returns-then-u t c).After-search_mutable-arg-in-loop-l-1) c.search_mutable-u.ensures c.leave-then-u.ensures c.if-u.true
+pub search-returns-in-Break-search_mutable-2 : goal.search-returns-in-Break-search_mutable-2
+search-returns-in-Break-search_mutable-2 t c = seek_over (rest_seeks c.loop-n.invariant (c.in-Continue-refill.ensures _ _)) c.in-Break-search_mutable-2.ensures
 
-pub search-loop-l-smaller : goal.search-loop-l-smaller
-search-loop-l-smaller t c =
-    let y = c.requires in
-    rest_less y.0.sized y.3 (rests t (goal.at.search-loop-l-smaller t c).At-loop-l) (c.refill-q.ensures _ _) c.if-q.false c.search_mutable-u.ensures c.if-u.false
+pub search-loop-n-smaller : goal.search-loop-n-smaller
+search-loop-n-smaller t c = rest_less c.requires.0.sized c.requires.3 c.loop-n.invariant (c.in-Continue-refill.ensures _ _) c.in-Continue-search_mutable.ensures
 
-pub search-loop-l-preserved : goal.search-loop-l-preserved
-search-loop-l-preserved t c = rested_on c.loop-l.invariant (c.refill-q.ensures _ _) c.if-q.false c.search_mutable-u.ensures c.if-u.false c.search_mutable-u.auto.list
+pub search-loop-n-preserved : goal.search-loop-n-preserved
+search-loop-n-preserved t c = seek_rests (rest_seeks c.loop-n.invariant (c.in-Continue-refill.ensures _ _)) c.in-Continue-search_mutable.ensures c.search_mutable-in-loop-n.auto.list
 
 -- ## A pass
 
-pub search_mutable-loop-t-init : goal.search_mutable-loop-t-init
-search_mutable-loop-t-init t c = let y = c.requires in passing_starts y.0.few y.1
-
-pub search_mutable-turn-u-requires : goal.search_mutable-turn-u-requires
-search_mutable-turn-u-requires t c =
-    let i = c.loop-t.invariant in
+pub search_mutable-turn-requires : goal.search_mutable-turn-requires
+search_mutable-turn-requires t c =
+    let i = c.loop-node.invariant in
     let y = c.requires in
-    (omega (arith, c.decreases), (ready_on y.0 i.size i.long i.few, omega (arith, c.loop-t-test.true), y.2, y.3, passing_stands c.loop-t.invariant c.requires.4))
+    (omega (arith, c.decreases), (ready_on y.0 i.size i.long i.few, omega (arith, c.loop-node-test.true), y.2, y.3, passing_stands i y.4))
 
-pub search_mutable-returns-then-u : goal.search_mutable-returns-then-u
-search_mutable-returns-then-u t c = passing_over c.loop-t.invariant c.turn-u.ensures c.if-u.true
+pub search_mutable-returns-in_err-node : goal.search_mutable-returns-in_err-node
+search_mutable-returns-in_err-node t c = rw c.from_residual.ensures (passing_over c.loop-node.invariant c.in_err-node.ensures)
 
-pub search_mutable-loop-t-smaller : goal.search_mutable-loop-t-smaller
-search_mutable-loop-t-smaller t c = turn_less (passing_stands c.loop-t.invariant c.requires.4) c.turn-u.ensures c.if-u.false
+pub search_mutable-loop-node-smaller : goal.search_mutable-loop-node-smaller
+search_mutable-loop-node-smaller t c = turn_less (passing_stands c.loop-node.invariant c.requires.4) c.in_ok-node.ensures
 
-pub search_mutable-loop-t-preserved : goal.search_mutable-loop-t-preserved
-search_mutable-loop-t-preserved t c = passing_on c.loop-t.invariant c.turn-u.ensures c.if-u.false c.turn-u.auto.list
+pub search_mutable-loop-node-preserved : goal.search_mutable-loop-node-preserved
+search_mutable-loop-node-preserved t c = passing_on c.loop-node.invariant c.in_ok-node.ensures c.turn.auto.list
 
 pub search_mutable-returns : goal.search_mutable-returns
-search_mutable-returns t c = passing_done c.loop-t.invariant c.goes_on.ensures c.loop-t-test.false
+search_mutable-returns t c = passing_done c.loop-node.invariant c.loop-node-test.false
 
 -- ## One guess
-
-pub try_direction-overflow_add-depth : goal.try_direction-overflow_add-depth
-try_direction-overflow_add-depth t c = omega (arith, c.requires.0.depth)
-
-pub try_direction-overflow_sub-depth : goal.try_direction-overflow_sub-depth
-try_direction-overflow_sub-depth t c = omega (arith, c.requires.5)
-
-pub try_direction-set_guess-g-requires : goal.try_direction-set_guess-g-requires
-try_direction-set_guess-g-requires t c = let y = c.requires in (y.0, y.1, y.2, y.3)
-
-pub try_direction-returns-then-g : goal.try_direction-returns-then-g
-try_direction-returns-then-g t c = set_died c.args.left c.requires.4 c.set_guess-g.ensures c.if-g.true
-
-pub try_direction-returns-then-m-ne0 : goal.try_direction-returns-then-m-ne0
-try_direction-returns-then-m-ne0 t c =
-    set_limited c.args.left c.requires.4 c.set_guess-g.ensures c.if-g.false c.limits_reached-m.result c.limited.ensures c.limits_reached-m.ensures c.if-m-ne0.true
-
-pub try_direction-probe_guess-p-requires : goal.try_direction-probe_guess-p-requires
-try_direction-probe_guess-p-requires t c =
-    let w = c.set_guess-g.ensures in
-    (ready_on c.requires.0 w.size c.set_guess-g.auto.list w.few, size_at (λ a b. c.set_guess-g.result.queue.n ≡ a * b) w.size w.queue, (limit_none _ _ _ (sym c.limits_reached-m.ensures ∙ c.if-m-ne0.false)).1)
-
-pub try_direction-returns-then-p : goal.try_direction-returns-then-p
-try_direction-returns-then-p t c = probe_died c.args.left c.requires.4 c.set_guess-g.ensures c.if-g.false (sym c.limits_reached-m.ensures ∙ c.if-m-ne0.false) c.probe_guess-p.ensures c.if-p.true
-
-pub try_direction-returns-then-k-ne0 : goal.try_direction-returns-then-k-ne0
-try_direction-returns-then-k-ne0 t c =
-    probed_limited c.args.left c.requires.4 c.set_guess-g.ensures c.if-g.false (sym c.limits_reached-m.ensures ∙ c.if-m-ne0.false) c.probe_guess-p.ensures c.if-p.false
-    c.limits_reached-k.result c.limited-then-k-ne0.ensures c.limits_reached-k.ensures c.if-k-ne0.true
-
-pub try_direction-is_solved_full-requires : goal.try_direction-is_solved_full-requires
-try_direction-is_solved_full-requires t c = sized_on (size_more c.set_guess-g.ensures.size c.probe_guess-p.ensures.size) c.requires.0.sized
-
-pub try_direction-returns-then-is_solved_full : goal.try_direction-returns-then-is_solved_full
-try_direction-returns-then-is_solved_full t c =
-    probed_solved c.args.left c.requires.4 c.set_guess-g.ensures c.if-g.false (sym c.limits_reached-m.ensures ∙ c.if-m-ne0.false) c.probe_guess-p.ensures c.if-p.false
-    (sym c.if-k-ne0.false ∙ c.limits_reached-k.ensures) (sym c.if-is_solved_full.true ∙ c.is_solved_full.ensures)
-
-pub try_direction-choose_directions-waiting-requires : goal.try_direction-choose_directions-waiting-requires
-try_direction-choose_directions-waiting-requires t c =
-    (sized_on (size_more c.set_guess-g.ensures.size c.probe_guess-p.ensures.size) c.requires.0.sized, size_at (λ a b. c.probe_guess-p.result.notes.n ≡ a * b) c.probe_guess-p.ensures.size c.probe_guess-p.ensures.notes)
 
 pub try_direction-search-requires : goal.try_direction-search-requires
 try_direction-search-requires t c =
     let y = c.requires in
-    let w = c.set_guess-g.ensures in
-    let v = c.probe_guess-p.ensures in
-    let e = c.choose_directions-waiting.ensures in
-    let stands = deeper_stands c.args.left c.requires.4 w c.if-g.false (sym c.limits_reached-m.ensures ∙ c.if-m-ne0.false) v c.if-p.false (sym c.if-k-ne0.false ∙ c.limits_reached-k.ensures) y.0.sized e y.6 in
-    (omega (arith, c.decreases), (ready_on y.0 (size_more w.size v.size) (c.probe_guess-p.auto.list ∙ c.set_guess-g.auto.list) v.few, e.within, omega (arith, y.5), stands))
+    let w = c.in-Continue.ensures in
+    let i = w.within in
+    (omega (arith, c.decreases), (ready_on y.0 i.0.size c.enter_guess.auto.list i.0.few, i.1, omega (arith, y.5), deeper_stands c.args.left w y.6))
 
-pub try_direction-returns : goal.try_direction-returns
-try_direction-returns t c =
-    deeper_tried c.args.left c.requires.4 c.set_guess-g.ensures c.if-g.false (sym c.limits_reached-m.ensures ∙ c.if-m-ne0.false) c.probe_guess-p.ensures c.if-p.false (sym c.if-k-ne0.false ∙ c.limits_reached-k.ensures)
-    c.requires.0.sized c.choose_directions-waiting.ensures (sym c.if-is_solved_full.false ∙ c.is_solved_full.ensures) c.search.ensures
+pub try_direction-returns-in-Continue : goal.try_direction-returns-in-Continue
+try_direction-returns-in-Continue t c = deeper_tried c.args.left c.in-Continue.ensures c.search.ensures
+
+pub try_direction-returns-in-Break : goal.try_direction-returns-in-Break
+try_direction-returns-in-Break t c = try_over c.args.left c.in-Break.ensures
 
 -- ## A turn
 
-pub turn-overflow_add-depth : goal.turn-overflow_add-depth
-turn-overflow_add-depth t c = omega (arith, c.requires.0.depth)
+pub turn-returns-in_err-t : goal.turn-returns-in_err-t
+turn-returns-in_err-t t c = rw c.from_residual.ensures (turn_over c.args.left c.requires.1 c.in_err-t.ensures)
 
-pub turn-overflow_sub-depth : goal.turn-overflow_sub-depth
-turn-overflow_sub-depth t c = omega (arith, c.requires.3)
-
-pub turn-before_guess-begun-requires : goal.turn-before_guess-begun-requires
-turn-before_guess-begun-requires t c = let y = c.requires in (y.0, y.1)
-
-pub turn-returns-then-not-begun : goal.turn-returns-then-not-begun
-turn-returns-then-not-begun t c = turn_turned c.args.left c.requires.1 c.before_guess-begun.ensures (not-true _ c.if-not-begun.true)
-
-pub turn-overflow_sub-left : goal.turn-overflow_sub-left
-turn-overflow_sub-left t c = omega (arith, c.requires.2)
+pub turn-returns-in_default : goal.turn-returns-in_default
+turn-returns-in_default t c = turn_skipped c.args.left c.requires.1 (rw c.in_default.is at c.in_ok-t.ensures)
 
 pub turn-try_direction-r-requires : goal.turn-try_direction-r-requires
 turn-try_direction-r-requires t c =
-    let g = c.before_guess-begun in
     let y = c.requires in
-    let w = g.ensures in
-    let k = w.same (not-false _ c.if-not-begun.false) in (
+    let w = rw c.in-Some.is at c.in_ok-t.ensures in
+    let i = w.within.0 in
+    let k = w.within.1 in (
       omega (arith, c.decreases, y.2),
       (
-        ready_on y.0 w.size g.auto.list w.few,
-        size_at (λ a b. g.result.cell.0 < a * b) w.size k.3,
-        k.4,
-        subst (λ (v : Stats). v.steps < c.args.l.budget) (sym k.1) k.6,
-        subst (λ (v : Stats). v.grids < c.args.l.grids) (sym k.1) k.5,
+        ready_on y.0 i.size c.before_guess.auto.list i.few,
+        size_at (λ a b. c.in-Some.guess.cell.0 < a * b) i.size k.cell,
+        k.colour,
+        subst (λ (v : Stats). v.steps < c.args.task.limits.budget) (sym k.stats) k.steps,
+        subst (λ (v : Stats). v.grids < c.args.task.limits.grids) (sym k.stats) k.grids,
         omega (arith, y.2, y.3),
-        guess_stands c.args.left y.1 w (not-false _ c.if-not-begun.false) y.4,
+        guess_stands c.args.left y.1 w y.4,
       ),
     )
 
 pub turn-after_guess-requires : goal.turn-after_guess-requires
 turn-after_guess-requires t c =
-    let g = c.before_guess-begun in
     let y = c.requires in
-    let w = g.ensures in
+    let w = rw c.in-Some.is at c.in_ok-t.ensures in
     let v = c.try_direction-r.ensures in
-    let k = w.same (not-false _ c.if-not-begun.false) in
-    let size = back_size c.args.left c.requires.1 c.before_guess-begun.ensures (not-false _ c.if-not-begun.false) c.requires.2 c.requires.3 c.try_direction-r.ensures c.restore.ensures in (
-      ready_on y.0 size (c.try_direction-r.auto.list ∙ g.auto.list) v.few,
-      w.within,
-      size_at (λ a b. g.result.cell.0 < a * b) size k.3,
-      k.4,
-      tried_steps c.args.left y.1 w (not-false _ c.if-not-begun.false) y.2 y.3 v y.0 y.4,
+    let size = back_size c.args.left y.1 w y.2 y.3 v c.restore.ensures in (
+      ready_on y.0 size (c.try_direction-r.auto.list ∙ c.before_guess.auto.list) v.within.few,
+      w.within.0.within,
+      size_at (λ a b. c.in-Some.guess.cell.0 < a * b) size w.within.1.cell,
+      w.within.1.colour,
+      tried_steps c.args.left y.1 w y.2 y.3 v y.0 y.4,
     )
 
 pub turn-returns : goal.turn-returns
 turn-returns t c =
     let y = c.requires in
-    turn_tried c.args.left y.1 c.before_guess-begun.ensures (not-false _ c.if-not-begun.false) y.2 y.3 c.try_direction-r.ensures c.restore.ensures c.after_guess.ensures
+    turn_tried c.args.left y.1 (rw c.in-Some.is at c.in_ok-t.ensures) y.2 y.3 c.try_direction-r.ensures c.restore.ensures c.after_guess.ensures

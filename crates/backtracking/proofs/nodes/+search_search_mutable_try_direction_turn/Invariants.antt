@@ -1,8 +1,8 @@
 -- The search, its passes, its turns and its guesses call each other; how much deeper the search may go falls from each to the next, and with it the measures.
--- A pass goes on from the rules' node that the code's stands for (`Passing`), and so does the search from one pass to the next (`Rested`).
+-- The search rests after each pass on the way to its end (`Resting`), and a pass goes on from the rules' node that the code's stands for (`Passing`).
 use Rattle.std.proofs.Common.{◌+◌, ◌*◌}
 use Rattle.backtracking.proofs.Passing.{Passing, node_size}
-use Rattle.backtracking.proofs.Seeking.{Rested, rest_size}
+use Rattle.backtracking.proofs.Seeking.{Resting, rest_size}
 use Rattle.backtracking.proofs.nodes.+search_search_mutable_try_direction_turn.Given as goal
 
 abbrev pub decreases-search : goal.decreases-search
@@ -17,14 +17,14 @@ decreases-try_direction l = 4 * l.left + 4
 abbrev pub decreases-turn : goal.decreases-turn
 decreases-turn l = 4 * l.left + 1
 
-abbrev pub invariant-search-loop-l : goal.invariant-search-loop-l
-invariant-search-loop-l l = Rested l.initial.t l.masks l.initial.list l.l l.left l.t l.list
+abbrev pub invariant-search-loop-n : goal.invariant-search-loop-n
+invariant-search-loop-n l = Resting l.fn.board l.fn.waiting l.task.machines.now l.fn.list l.task.limits l.left l.fn.stats l.spent l.list
 
-abbrev pub decreases-search-loop-l : goal.decreases-search-loop-l
-decreases-search-loop-l l = rest_size l.t
+abbrev pub decreases-search-loop-n : goal.decreases-search-loop-n
+decreases-search-loop-n l = rest_size l.spent
 
-abbrev pub invariant-search_mutable-loop-t : goal.invariant-search_mutable-loop-t
-invariant-search_mutable-loop-t l = Passing l.initial.t l.masks l.initial.list l.l l.left l.t l.list
+abbrev pub invariant-search_mutable-loop-node : goal.invariant-search_mutable-loop-node
+invariant-search_mutable-loop-node l = Passing l.fn.node l.task.machines.now l.fn.list l.task.limits l.left l.node l.list
 
-abbrev pub decreases-search_mutable-loop-t : goal.decreases-search_mutable-loop-t
-decreases-search_mutable-loop-t l = node_size l.t
+abbrev pub decreases-search_mutable-loop-node : goal.decreases-search_mutable-loop-node
+decreases-search_mutable-loop-node l = node_size l.node

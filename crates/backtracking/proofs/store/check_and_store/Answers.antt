@@ -1,14 +1,10 @@
--- By the two ways the final check can go.
+-- Where the final check passes, the board is stored.
+use mathlib.Core.Path.{sym, ◌∙◌}
 use Rattle.boards.proofs.Sizes.{board_cells}
-use Rattle.backtracking.proofs.Storing.{stores_met, stores_failed}
+use Rattle.backtracking.proofs.Storing.{stores_met}
 use Rattle.backtracking.proofs.store.check_and_store.Goals as goal
-
-pub returns-then-check : goal.returns-then-check
-returns-then-check c =
-    let a = c.args in
-    stores_met a.b _ _ a.l a.s _ _ _ c.requires.sized (board_cells a.b _ c.well_formed.0) c.if-check.true c.check.ensures.is c.add_solution.ensures
 
 pub returns : goal.returns
 returns c =
     let a = c.args in
-    stores_failed a.b _ _ a.l a.s _ c.requires.few c.if-check.false c.check.ensures.is
+    stores_met a.b _ _ a.task.limits a.s _ _ c.requires.sized (board_cells a.b _ c.well_formed.0) (λ z i. sym c.if-not-check.false ∙ c.check.ensures.is z i) c.add_solution.ensures
