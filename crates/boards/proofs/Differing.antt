@@ -10,6 +10,7 @@ use lib.ListN.{get_or}
 use lib.Pow.{pow-lt, pow_mono, pow_pos}
 use borrow.Author.Tests.{eq-eqb, ne_eqb}
 use mir.Val.{bool_byte}
+use Rattle.std.proofs.Math.Bool.{and-true, and-false, or-false}
 use Rattle.rules.specs.Sets.{has, set_of}
 use Rattle.rules.proofs.Tests.{by_test, by_equal}
 use Rattle.rules.proofs.Sets.{has_none, has_only, has-set_of, set_of-has, set_of-low, same_set}
@@ -33,21 +34,12 @@ module _ (p : ℕ → Bool) (n : ℕ) (h : n < 32) where
   few : has (set_of n p) n ≡ false
   few = by_test (has (set_of n p) n) (λ e. let l = (set_of-has n p n e).0 in absurd (omega arith)) (λ e. e)
 
-  last : (v : Bool) → (false || (v && true)) ≡ v
-  last true = refl
-  last false = refl
-
-  others : (u v : Bool) → (u || (v && false)) ≡ u
-  others true v = refl
-  others false true = refl
-  others false false = refl
-
   set_more : bit_or (set_of n p) (one_if (p n) n) ≡ set_of (n + 1) p
   set_more = same_set (n + 1) (bit_or (set_of n p) (one_if (p n) n)) (set_of (n + 1) p)
       (or_lt (n + 1) (set_of n p) (one_if (p n) n) (let l = set_of-low n p in let k : n ≤ n + 1 = omega arith in omega (arith, pow_mono k)) (one_if_low (p n) n h)) (set_of-low (n + 1) p)
       (λ j l. has_or (set_of n p) (one_if (p n) n) j ∙ ap (λ v. has (set_of n p) j || v) (has_one_if (p n) n j h) ∙ by_equal j n
-      (λ e. rw (e, few, eq-eqb n n refl) (last (p n)))
-      (λ e. rw (ne_eqb j n e, has-set_of n p j (omega arith)) (others (p j) (p n)))
+      (λ e. rw (e, few, eq-eqb n n refl) (and-true (p n)))
+      (λ e. rw (ne_eqb j n e, has-set_of n p j (omega arith)) (ap (λ v. p j || v) (and-false (p n)) ∙ or-false (p j)))
       ∙ sym (has-set_of (n + 1) p j l))
 
 pub differ_none : (old new : List ℕ) → 0 ≡ differ_bits old new 0

@@ -1,55 +1,49 @@
 -- Sets of pending lines as numbers: the lowest line, a set without a line, two sets together, and a set moved up.
-use mathlib.Core.Path.{◌≡◌, refl, sym, ap, ap₂, ◌∙◌}
+use mathlib.Core.Path.{◌≡◌, sym, ap, ap₂, ◌∙◌}
 use mathlib.Core.Logic.{inl, inr}
 use mathlib.Core.Bool.{true, false, not, ◌&&◌, ◌||◌}
 use mathlib.Core.Option.{some}
-use Prim.Native.Nat.{ℕ, zero, suc, ◌+◌, ◌-◌, ◌*◌, ◌/◌, ◌%◌, ◌^◌, ◌≤◌, ◌<◌}
-use native.Mathlib.Nat.{pow-suc}
+use Prim.Native.Nat.{ℕ, ◌+◌, ◌-◌, ◌*◌, ◌/◌, ◌%◌, ◌^◌, ◌≤◌, ◌<◌}
+use native.Mathlib.Nat.{add-zero}
 use native.Mathlib.Omega.{arith}
-use lib.Bits.{bit_and, bit_or, or_lt, shifted_half, shifted_even}
-use lib.Count.{under, count_trailing_zeros}
+use lib.Bits.{bit_and, bit_or, or_lt}
+use lib.Count.{count_trailing_zeros}
 use lib.Dec.{eqb}
 use lib.Pow.{pow-lt, pow_mono, shr-shr, shl-shr}
-use borrow.Author.Tests.{eqb-true, eqb-false, eq-eqb, ne_eqb}
+use mir.Syntax.{w32}
+use borrow.Author.Tests.{eq-eqb, ne_eqb}
+use Rattle.std.proofs.Math.Bool.{and-false, and-true}
+use Rattle.std.proofs.lemmas.Nat.Bits.{bit_at-zero, bit_at-trailing_zeros, bit_at_clear_same, bit_at_clear_other, bit_at_cat_low}
 use Rattle.rules.specs.Lists.{first, from}
 use Rattle.rules.specs.Sets.{bit, has, set_of, only}
-use Rattle.rules.proofs.Tests.{by_test, or_true, true_or, same_test}
+use Rattle.rules.proofs.Tests.{by_equal, or_true, true_or, same_test}
 use Rattle.rules.proofs.Lists.{first_least}
-use Rattle.rules.proofs.Sets.{bit_zero, has_in, in_has, has_and, has_suc, has_only, has-set_of, set_of-low, same_set, member_low}
+use Rattle.rules.proofs.Sets.{has_in, in_has, has_only, has-set_of, set_of-low, same_set, member_low}
 use Rattle.lines.proofs.Masks.{or_left, or_right, or_of}
+
+-- a number is in a set, or is not, by its bit
+by_bit : (s j : ℕ) → bit s j ≡ 1 → has s j ≡ true
+unfolding has
+by_bit s j e = eq-eqb (bit s j) 1 e
+
+by_no_bit : (s j : ℕ) → bit s j ≡ 0 → has s j ≡ false
+unfolding has
+by_no_bit s j e = ne_eqb (bit s j) 1 (λ q. omega arith)
 
 pub has_or : (a b j : ℕ) → has (bit_or a b) j ≡ (has a j || has b j)
 has_or a b j = same_test (has (bit_or a b) j) (has a j || has b j)
     (λ e. true_or (has a j) (has b j) (elim (or_of a b j (in_has (bit_or a b) j e)) [ inl p ↦ inl (has_in a j p) | inr p ↦ inr (has_in b j p) ]))
     (λ e. has_in (bit_or a b) j (elim (or_true (has a j) (has b j) e) [ inl p ↦ or_left a b j (in_has a j p) | inr p ↦ or_right a b j (in_has b j p) ]))
 
--- whether 0 is in a set
-has_zero : (s : ℕ) → has s 0 ≡ eqb (s % 2) 1
-unfolding has
-has_zero s = ap (λ d. eqb d 1) (bit_zero s)
-
-odd_has : (s : ℕ) → s % 2 ≡ 1 → has s 0 ≡ true
-odd_has s e = has_zero s ∙ eq-eqb (s % 2) 1 e
-
-even_has : (s : ℕ) → s % 2 ≡ 0 → has s 0 ≡ false
-even_has s e = has_zero s ∙ ne_eqb (s % 2) 1 (λ q. omega arith)
-
--- what is not in a set of numbers below n
-has_complement : (n s j : ℕ) → s < 2 ^ n → j < n → has ((2 ^ n - 1) - s) j ≡ not (has s j)
-has_complement zero s j h k = absurd (omega arith)
-has_complement (suc n) s zero h k =
-    let p = pow-suc 2 n in
-    by_test (has s 0)
-    (λ e. let q = eqb-true (s % 2) 1 (sym (has_zero s) ∙ e) in even_has ((2 ^ suc n - 1) - s) (omega arith) ∙ sym (ap not e))
-    (λ e. let q = eqb-false (s % 2) 1 (sym (has_zero s) ∙ e) in odd_has ((2 ^ suc n - 1) - s) (omega arith) ∙ sym (ap not e))
-has_complement (suc n) s (suc j) h k =
-    let p = pow-suc 2 n in
-    let half : ((2 ^ suc n - 1) - s) / 2 ≡ (2 ^ n - 1) - s / 2 = omega arith in
-    has_suc ((2 ^ suc n - 1) - s) j ∙ ap (λ x. has x j) half ∙ has_complement n (s / 2) j (omega arith) (omega arith) ∙ ap not (sym (has_suc s j))
-
 -- a set without a number
-pub has_except : (n s i j : ℕ) → i < n → j < n → has (bit_and s ((2 ^ n - 1) - only i)) j ≡ (has s j && not (eqb j i))
-has_except n s i j h k = has_and s ((2 ^ n - 1) - only i) j ∙ ap (λ v. has s j && v) (has_complement n (only i) j (pow-lt h) k ∙ ap not (has_only i j))
+pub has_except : (s i j : ℕ) → i < 32 → j < 32 → has (bit_and s (4294967295 - 1 * 2 ^ i % 4294967296)) j ≡ (has s j && not (eqb j i))
+unfolding has bit
+has_except s i j h k = by_equal j i
+    (λ e. by_no_bit others j (ap (bit others) e ∙ bit_at_clear_same w32 s i h) ∙ sym (rw (eq-eqb j i e) (and-false (has s j))))
+    (λ e. ap (λ d. eqb d 1) (bit_at_clear_other w32 s i h j k e) ∙ sym (rw (ne_eqb j i e) (and-true (has s j))))
+  where
+    others : ℕ
+    others = bit_and s (4294967295 - 1 * 2 ^ i % 4294967296)
 
 -- one bit shifted by less than 32 places
 pub shifted_one : (i : ℕ) → i < 32 → 1 * 2 ^ i % 4294967296 ≡ only i
@@ -66,34 +60,18 @@ unfolding has bit
 has_up s n j = ap (λ x. eqb (x % 2) 1) (sym (shr-shr (s * 2 ^ n) n j) ∙ ap (λ x. x / 2 ^ j) (shl-shr s n))
 
 pub has_up_low : (s n j : ℕ) → j < n → has (s * 2 ^ n) j ≡ false
-has_up_low s zero j h = absurd (omega arith)
-has_up_low s (suc n) zero h = even_has (s * 2 ^ suc n) (shifted_even s n)
-has_up_low s (suc n) (suc j) h = has_suc (s * 2 ^ suc n) j ∙ ap (λ x. has x j) (shifted_half s n) ∙ has_up_low s n j (omega arith)
+unfolding bit
+has_up_low s n j h = by_no_bit (s * 2 ^ n) j (rw add-zero at (bit_at_cat_low s n 0 j h ∙ bit_at-zero j))
 
 -- ## The lowest number
 
-lowest_in : (k s : ℕ) → 0 < s → s < 2 ^ k → has s (count_trailing_zeros k s) ≡ true
-unfolding count_trailing_zeros
-lowest_in zero s h l = absurd (omega arith)
-lowest_in (suc k) s h l = go (s % 2) refl (λ p. lowest_in k (s / 2) p (let q = pow-suc 2 k in omega arith))
-  where
-    go : (d : ℕ) → s % 2 ≡ d → (0 < s / 2 → has (s / 2) (count_trailing_zeros k (s / 2)) ≡ true) → has s (under d (count_trailing_zeros k (s / 2))) ≡ true
-    go zero e ih = has_suc s (count_trailing_zeros k (s / 2)) ∙ ih (omega arith)
-    go (suc d) e ih = odd_has s (omega arith)
+lowest : (n s : ℕ) → 0 < s → s < 2 ^ n → n ≤ 32 → (has s (count_trailing_zeros 32 s) ≡ true) × ((j : ℕ) → j < count_trailing_zeros 32 s → has s j ≡ false)
+unfolding bit
+lowest n s h l m = let t = bit_at-trailing_zeros w32 s h (let z = pow_mono m in omega arith) in (by_bit s _ t.1, λ j r. by_no_bit s j (t.2 j r))
 
-lowest_least : (k s j : ℕ) → j < count_trailing_zeros k s → has s j ≡ false
-unfolding count_trailing_zeros
-lowest_least zero s j h = absurd (omega arith)
-lowest_least (suc k) s j h = go (s % 2) j refl h (λ i l. lowest_least k (s / 2) i l)
-  where
-    go : (d j : ℕ) → s % 2 ≡ d → j < under d (count_trailing_zeros k (s / 2)) → ((i : ℕ) → i < count_trailing_zeros k (s / 2) → has (s / 2) i ≡ false) → has s j ≡ false
-    go zero zero e l ih = even_has s e
-    go zero (suc j) e l ih = has_suc s j ∙ ih j (omega arith)
-    go (suc d) j e l ih = absurd (omega arith)
+pub lowest_low : (n s : ℕ) → 0 < s → s < 2 ^ n → n ≤ 32 → count_trailing_zeros 32 s < n
+lowest_low n s h l m = member_low n s (count_trailing_zeros 32 s) l (lowest n s h l m).0
 
-pub lowest_low : (k n s : ℕ) → 0 < s → s < 2 ^ n → n ≤ k → count_trailing_zeros k s < n
-lowest_low k n s h l m = member_low n s (count_trailing_zeros k s) l (lowest_in k s h (let z = pow_mono m in omega arith))
-
-pub lowest_first : (k n s : ℕ) → 0 < s → s < 2 ^ n → n ≤ k → first (has s) (from 0 n) ≡ some (count_trailing_zeros k s)
-lowest_first k n s h l m = first_least (has s) 0 n (count_trailing_zeros k s) (omega arith) (let z = lowest_low k n s h l m in omega arith)
-    (lowest_in k s h (let z = pow_mono m in omega arith)) (λ j g r. lowest_least k s j r)
+pub lowest_first : (n s : ℕ) → 0 < s → s < 2 ^ n → n ≤ 32 → first (has s) (from 0 n) ≡ some (count_trailing_zeros 32 s)
+lowest_first n s h l m = let t = lowest n s h l m in
+    first_least (has s) 0 n (count_trailing_zeros 32 s) (omega arith) (let z = lowest_low n s h l m in omega arith) t.0 (λ j g r. t.1 j r)

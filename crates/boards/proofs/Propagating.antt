@@ -14,7 +14,7 @@ use lib.ListN.{length, take}
 use lib.Seq.{length-take-le}
 use Rattle.rules.specs.Lists.{from}
 use Rattle.rules.specs.Loops.{more, stop}
-use Rattle.rules.specs.Sets.{has, members, only}
+use Rattle.rules.specs.Sets.{has, members}
 use Rattle.rules.specs.Lines.{reduce}
 use Rattle.rules.specs.Boards.{size, Puzzle, line_count, line_cells, line_of, clue_at}
 use Rattle.rules.specs.Propagation.{Pending, pending, write, next, propagate_step, propagate_on, propagate}
@@ -31,7 +31,7 @@ use Rattle.boards.specs.Table.{Table, Playable}
 use Rattle.boards.specs.Propagation.{NarrowedTo, Narrows, cell_lines, crossed, Propagates}
 use Rattle.boards.proofs.Sizes.{few_cells, at_size, same_size, sized_as}
 use Rattle.boards.proofs.Places.{take_write}
-use Rattle.boards.proofs.Pending.{shifted_one, lowest_first, lowest_low}
+use Rattle.boards.proofs.Pending.{lowest_first, lowest_low}
 use Rattle.boards.proofs.Crossing.{cells_low, crossed_low}
 use Rattle.boards.proofs.Waking.{pend_is}
 
@@ -41,16 +41,13 @@ use Rattle.boards.proofs.Waking.{pend_is}
 abbrev pub lowest : ℕ → ℕ
 lowest p = count_trailing_zeros 32 p
 
--- the lines pending once it was reduced, and lost a colour in these of its cells
-abbrev pub pending_after : ℕ → ℕ → ℕ → ℕ
-pending_after h p gone = bit_or (bit_and p ((2 ^ 32 - 1) - only (lowest p))) (crossed h (lowest p) gone)
-
--- as the code has it
+-- the lines pending without it, and with those that a reduced line wakes
 abbrev pub pending_next : ℕ → ℕ → ℕ
 pending_next p woken = bit_or (bit_and p (4294967295 - 1 * 2 ^ lowest p % 4294967296)) woken
 
-pending_after_lem : (h p gone woken : ℕ) → lowest p < 32 → woken ≡ crossed h (lowest p) gone → pending_next p woken ≡ pending_after h p gone
-pending_after_lem h p gone woken l e = ap₂ (λ (x y : ℕ). bit_or (bit_and p (4294967295 - x)) y) (shifted_one (lowest p) l) e
+-- it was reduced, and lost a colour in these of its cells
+abbrev pub pending_after : ℕ → ℕ → ℕ → ℕ
+pending_after h p gone = pending_next p (crossed h (lowest p) gone)
 
 -- some line is pending on the board, and the lowest was reduced there
 record Found (z : Puzzle) (w h : ℕ) (cells : List ℕ) (p : ℕ) (after : List ℕ) (r : Option ℕ) : Type 0 where
@@ -69,7 +66,7 @@ module _ (z : Puzzle) (cells : List ℕ) (p : ℕ) where
 
   module _ (after : List ℕ) where
     next_is : {r : Option ℕ} → Found z z.width z.height cells p after r → next z p ≡ some (lowest p)
-    next_is f = lowest_first 32 (line_count z) p f.some_line f.few f.small
+    next_is f = lowest_first (line_count z) p f.some_line f.few f.small
 
     step_none : Found z z.width z.height cells p after None → propagate_step z (pending board p) ≡ stop none
     step_none f = let e = next_is f in let q = f.found.0 in rw (e, propagate_step, q)
@@ -80,7 +77,7 @@ module _ (z : Puzzle) (cells : List ℕ) (p : ℕ) where
         let i = lowest p in
         let e = next_is f in
         let n = f.found in
-        let low : i < line_count z = lowest_low 32 (line_count z) p f.some_line f.few f.small in
+        let low : i < line_count z = lowest_low (line_count z) p f.some_line f.few f.small in
         let old : List ℕ = line_of z board i in
         let written : write board (line_cells z i) n.0 ≡ take (z.width * z.height) after =
         sym (ap (take (z.width * z.height)) n.2 ∙ take_write (z.width * z.height) cells (line_cells z i) n.0 (λ c m. line_low z i low m)) in
@@ -139,7 +136,7 @@ module _ {b : Board} {machines : List Machine} {first : ℕ} {a : Board} {p : �
     pos = omega arith
 
     low : lowest p < b.h + b.w
-    low = lowest_low 32 (b.h + b.w) p pos at.few lines_few
+    low = lowest_low (b.h + b.w) p pos at.few lines_few
 
     pub propagating_low : Sized a × (lowest p < a.h + a.w)
     propagating_low =
@@ -181,14 +178,13 @@ module _ {b : Board} {machines : List Machine} {first : ℕ} {a : Board} {p : �
 
         module _ {woken : ℕ} (e : woken ≡ crossed d.h (lowest p) gone) where
           later_is : later ≡ pending_next p woken
-          later_is = sym (pending_after_lem b.h p gone woken (let x = low in let y = lines_few in omega arith)
-              (e ∙ ap (λ h. crossed h (lowest p) gone) (n.size.high ∙ at.size.high)))
+          later_is = ap (pending_next p) (sym (e ∙ ap (λ h. crossed h (lowest p) gone) (n.size.high ∙ at.size.high)))
 
           pub propagating_turn : Propagating b machines first d (pending_next p woken)
           propagating_turn = subst (Propagating b machines first d) later_is (record {
             here = λ z t. at.here z t ∙ propagate_more z state (step z t);
-            few = or_lt (b.h + b.w) (bit_and p ((2 ^ 32 - 1) - only (lowest p))) (crossed b.h (lowest p) gone)
-                (let x = and_le_l p ((2 ^ 32 - 1) - only (lowest p)) in let y = at.few in omega arith)
+            few = or_lt (b.h + b.w) (bit_and p (4294967295 - 1 * 2 ^ lowest p % 4294967296)) (crossed b.h (lowest p) gone)
+                (let x = and_le_l p (4294967295 - 1 * 2 ^ lowest p % 4294967296) in let y = at.few in omega arith)
                 (crossed_low b.w b.h (lowest p) gone (same_size at.size (λ w h. gone < 2 ^ (line_at w h (lowest p)).len) n.few));
             size = record { wide = n.size.wide ∙ at.size.wide; high = n.size.high ∙ at.size.high };
             long = n.long ∙ at.long;

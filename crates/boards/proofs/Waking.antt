@@ -2,14 +2,14 @@
 use mathlib.Core.Path.{◌≡◌, sym, ap, ap₂, subst, ◌∙◌}
 use mathlib.Core.Bool.{Bool, true, not, ◌&&◌, ◌||◌}
 use mathlib.Core.List.{List}
-use Prim.Native.Nat.{ℕ, ◌-◌, ◌*◌, ◌^◌, ◌≤◌, ◌<◌}
+use Prim.Native.Nat.{ℕ, ◌-◌, ◌*◌, ◌%◌, ◌^◌, ◌≤◌, ◌<◌}
 use native.Mathlib.Omega.{arith}
 use lib.Bits.{bit_and, bit_or, or_lt, and_le_l}
 use lib.Dec.{eqb}
 use lib.ListN.{length, get_or, length-map}
 use borrow.Author.Tests.{eqb-true, eq-eqb}
 use Rattle.rules.specs.Lists.{any, from}
-use Rattle.rules.specs.Sets.{has, only, lost}
+use Rattle.rules.specs.Sets.{has, lost}
 use Rattle.rules.specs.Boards.{Board, at, Puzzle, line_count, line_cells, line_of, crossing}
 use Rattle.rules.specs.Propagation.{woken, pend}
 use Rattle.rules.proofs.Tests.{and_true, true_and, same_test}
@@ -73,12 +73,12 @@ module _ (z : Puzzle) (i : ℕ) (on : i < line_count z) (b : Board) (long : leng
 
   -- the lines pending then
   pub pend_is : (p : ℕ) → p < 2 ^ line_count z → line_count z ≤ 32 →
-      bit_or (bit_and p ((2 ^ 32 - 1) - only i)) (crossed z.height i (lost_cells (line_of z b i) new)) ≡ pend z i b (after z b i new) p
+      bit_or (bit_and p (4294967295 - 1 * 2 ^ i % 4294967296)) (crossed z.height i (lost_cells (line_of z b i) new)) ≡ pend z i b (after z b i new) p
   unfolding pend
   pend_is p few small = same_set (line_count z) (bit_or others awake) (pend z i b next p)
-      (or_lt (line_count z) others awake (let e = and_le_l p ((2 ^ 32 - 1) - only i) in omega arith) (crossed_low z.width z.height i gone gone_low))
+      (or_lt (line_count z) others awake (let e = and_le_l p (4294967295 - 1 * 2 ^ i % 4294967296) in omega arith) (crossed_low z.width z.height i gone gone_low))
       (set_of-low (line_count z) (λ j. (has p j && not (eqb j i)) || woken z i b next j))
-      (λ j l. has_or others awake j ∙ ap₂ ◌||◌ (has_except 32 p i j (omega arith) (omega arith)) (awake_is j) ∙ sym (pend_has z i b next p j l))
+      (λ j l. has_or others awake j ∙ ap₂ ◌||◌ (has_except p i j (omega arith) (omega arith)) (awake_is j) ∙ sym (pend_has z i b next p j l))
     where
       others : ℕ
-      others = bit_and p ((2 ^ 32 - 1) - only i)
+      others = bit_and p (4294967295 - 1 * 2 ^ i % 4294967296)
