@@ -16,8 +16,8 @@ pub struct Board {
 
 impl Board {
     // A cell's set; past the array there is no colour.
-    pub fn cell(self, c: CellNo) -> u8
-        ensures { result ≡ get_or self.cells c.0 0 }
+    pub fn cell(&self, c: CellNo) -> u8
+        ensures { result ≡ get_or self.now.cells c.0 0 }
     {
         self.cells.get(usize::from(c.0)).copied().unwrap_or(0)
     }
@@ -72,7 +72,7 @@ impl Board {
 }
 
 // Whether a cell is newly solved: its set was a and is b.
-fn is_new(a: u8, b: u8) -> bool
+pub fn is_new(a: u8, b: u8) -> bool
     ensures { result ≡ (not (single a) && single b) }
 {
     !cells::is_solved(a) && cells::is_solved(b)

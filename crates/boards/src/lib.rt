@@ -5,5 +5,5 @@ mod board;
 mod line;
 mod propagation;
 
-pub use board::{Board, newly_solved};
+pub use board::{Board, is_new, newly_solved};
 pub use line::{LINES, Line, line_of};
