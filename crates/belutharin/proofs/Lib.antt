@@ -1,5 +1,6 @@
 -- Laws for the proofs of this crate.
 pub mod Refusing
+pub mod Beginning
 pub mod Answering
 pub mod Accepting
 pub mod Rerunning

@@ -1,60 +1,62 @@
 -- The tests of an input, one after the other: the first that fails gives its number with all untouched, and an input that passes all is accepted.
-use mathlib.Core.Path.{◌≡◌, refl, sym, ap, subst, ◌∙◌}
-use mathlib.Core.Bool.{Bool, true, false, ◌&&◌}
-use mathlib.Core.List.{List}
-use mathlib.Core.Option.{Option, none, some}
-use Prim.Native.Nat.{ℕ, ◌+◌, ◌*◌, ◌≤◌}
-use native.Mathlib.Omega.{arith}
-use lib.ListN.{length}
-use lib.Dec.{leb}
+use Rattle.std.proofs.Common.{◌≡◌, refl, sym, ap, subst, ◌∙◌, Bool, true, false, ◌&&◌, List, [], ◌∷◌, ◌++◌, replicate, get_or, length, ℕ, ◌+◌, ◌*◌, ◌≤◌, leb, Option, None, Some, Result, Ok, Err}
+use Rattle.std.proofs.Math.Option as Math
 use borrow.Author.Tests.{leb-true}
 use Rattle.rules.specs.Clues.{Clue, clues_of}
 use Rattle.rules.specs.Answers as Rules
 use Rattle.rules.specs.Answers.{side, most_colours, colour_count, limits, board, Asked, untouched, test_clues, test_cells, searched, solve}
+use Rattle.rules.specs.declared.Refusal.{Refusal}
+use Rattle.rules.specs.declared.Refusal.TheVariants as Variants
+use Rattle.rules.specs.declared.Refusal.TheVariants.{Sides, Colours, Limits, Clues, Cells, Rate, Grid}
+use Rattle.rules.specs.Refusals.{refusal_number}
 use Rattle.rules.specs.Promises.{Accepted, Promised}
 use Rattle.rules.proofs.Tests.{passed, and_true}
 use Rattle.rules.proofs.Accepting.{few_colours, accepted_searched}
 use Rattle.rules.proofs.Promises.{solve_promised}
-use Rattle.belutharin.specs.Refusals.{number_fault, lent_fault}
-use Rattle.belutharin.specs.Answers.{answer}
+use Rattle.runs.specs.declared.limits.Limit.{Limit}
+use Rattle.runs.specs.declared.limits.Limit.TheVariants.{Grids, Steps, Depth}
+use Rattle.runs.specs.declared.limits.Stats.{Stats}
+use Rattle.runs.specs.Stats.{limit_number}
+use Rattle.belutharin.specs.Refusals.{accept_numbers, accept_lent}
+use Rattle.belutharin.specs.Answers.{outcome_number, answer}
+use Rattle.belutharin.specs.declared.answers.Outcome.{Outcome}
+use Rattle.belutharin.specs.declared.answers.Outcome.TheVariants.{Solved, Listed, DeadEnd}
 use Rattle.belutharin.specs.declared.answers.Answer.{Answer}
 
 -- what the rules answer keeps the promise
 pub promised : (a : Asked) {r : Rules.Answer} → r ≡ solve a → (r ≡ solve a) × Promised a r
 promised a e = (e, subst (λ r. Promised a r) (sym e) (solve_promised a))
 
-pub number_passed : (u v w : Bool) → 0 ≡ number_fault u v w → (u ≡ true) × (v ≡ true) × (w ≡ true)
-number_passed true true true e = (refl, refl, refl)
-number_passed true true false e = absurd (omega arith)
-number_passed true false w e = absurd (omega arith)
-number_passed false v w e = absurd (omega arith)
-
-pub lent_passed : (u v : Bool) → 0 ≡ lent_fault u v → (u ≡ true) × (v ≡ true)
-lent_passed true true e = (refl, refl)
-lent_passed true false e = absurd (omega arith)
-lent_passed false v e = absurd (omega arith)
-
 module _ (a : Asked) where
-  -- the test of its sides, colours and limits
-  abbrev numbers : ℕ
-  numbers = number_fault (side a.w && side a.h) (colour_count a.k) (limits a.most_grids a.most_depth a.budget)
+  same_refusal : (e f : Refusal) → e ≡ f → untouched a (refusal_number e) ≡ untouched a (refusal_number f)
+  same_refusal e f p = ap (λ e. untouched a (refusal_number e)) p
 
-  pub number_refused : (n : ℕ) → n ≡ numbers → (n ≡ 0 → ⊥) → untouched a n ≡ solve a
+  -- the test of its sides, colours and limits
+  abbrev numbers : Result (Unit {0}) Refusal
+  numbers = accept_numbers (side a.w && side a.h) (colour_count a.k) (limits a.most_grids a.most_depth a.budget)
+
+  pub numbers_refused : (e : Refusal) → Err e ≡ numbers → untouched a (refusal_number e) ≡ solve a
   unfolding solve
-  number_refused n e some-fault = go (side a.w && side a.h) (colour_count a.k) (limits a.most_grids a.most_depth a.budget) e
+  numbers_refused e = go (side a.w && side a.h) (colour_count a.k) (limits a.most_grids a.most_depth a.budget)
     where
-      go : (u v w : Bool) → n ≡ number_fault u v w → untouched a n ≡ (elim u as (λ _. Rules.Answer) [
+      go : (u v w : Bool) → Err e ≡ accept_numbers u v w → untouched a (refusal_number e) ≡ (elim u as (λ _. Rules.Answer) [
         | true ↦ elim v as (λ _. Rules.Answer) [ true ↦ elim w as (λ _. Rules.Answer) [ true ↦ test_clues a | false ↦ untouched a 13 ] | false ↦ untouched a 12 ]
         | false ↦ untouched a 11
       ])
-      go false v w e = ap (untouched a) e
-      go true false w e = ap (untouched a) e
-      go true true false e = ap (untouched a) e
-      go true true true e = absurd (some-fault e)
+      go false v w p = same_refusal e Sides (cc)
+      go true false w p = same_refusal e Colours (cc)
+      go true true false p = same_refusal e Limits (cc)
+      go true true true p = cc
 
-  module _ (ok : 0 ≡ numbers) where
+  module _ (ok : Ok tt ≡ numbers) where
     tests : (side a.w && side a.h ≡ true) × (colour_count a.k ≡ true) × (limits a.most_grids a.most_depth a.budget ≡ true)
-    tests = number_passed (side a.w && side a.h) (colour_count a.k) (limits a.most_grids a.most_depth a.budget) ok
+    tests = go (side a.w && side a.h) (colour_count a.k) (limits a.most_grids a.most_depth a.budget) ok
+      where
+        go : (u v w : Bool) → Ok tt ≡ accept_numbers u v w → (u ≡ true) × (v ≡ true) × (w ≡ true)
+        go true true true p = (refl, refl, refl)
+        go true true false p = cc
+        go true false w p = cc
+        go false v w p = cc
 
     sides : (side a.w ≡ true) × (side a.h ≡ true)
     sides = and_true (side a.w) (side a.h) tests.0
@@ -82,39 +84,91 @@ module _ (a : Asked) where
     unfolding solve
     at_clues = passed (untouched a 11) tests.0 ∙ passed (untouched a 12) tests.1 ∙ passed (untouched a 13) tests.2
 
-    pub clues_refused : clues_of a.k (a.h + a.w) a.clues ≡ none → untouched a 14 ≡ solve a
-    clues_refused e = sym (at_clues ∙ ap (λ (o : Option (List Clue)). elim o as (λ _. Rules.Answer) [ some c ↦ test_cells a c | none ↦ untouched a 14 ]) e)
+    pub clues_refused : clues_of a.k (a.h + a.w) a.clues ≡ Math.none → (e : Refusal) → e ≡ Clues → untouched a (refusal_number e) ≡ solve a
+    clues_refused n e p = same_refusal e Clues p ∙ sym (at_clues ∙ ap (λ (o : Math.Option (List Clue)). elim o as (λ _. Rules.Answer) [ Math.some c ↦ test_cells a c | Math.none ↦ untouched a 14 ]) n)
 
-    module _ (clues : List Clue) (read : clues_of a.k (a.h + a.w) a.clues ≡ some clues) where
+    module _ (clues : List Clue) (read : clues_of a.k (a.h + a.w) a.clues ≡ Math.some clues) where
       -- the test of what is lent
-      abbrev lent : ℕ
-      lent = lent_fault (board a.k (a.w * a.h) a.cells) (leb (a.most_grids * (a.w * a.h)) (length a.list))
+      abbrev lent : Result (Unit {0}) Refusal
+      lent = accept_lent (board a.k (a.w * a.h) a.cells) (leb (a.most_grids * (a.w * a.h)) (length a.list))
 
-      pub lent_refused : (n : ℕ) → n ≡ lent → (n ≡ 0 → ⊥) → untouched a n ≡ solve a
-      lent_refused n e some-fault =
-          go (board a.k (a.w * a.h) a.cells) (leb (a.most_grids * (a.w * a.h)) (length a.list)) e
-          ∙ sym (at_clues ∙ ap (λ (o : Option (List Clue)). elim o as (λ _. Rules.Answer) [ some c ↦ test_cells a c | none ↦ untouched a 14 ]) read)
+      pub lent_refused : (e : Refusal) → Err e ≡ lent → untouched a (refusal_number e) ≡ solve a
+      lent_refused e p =
+          go (board a.k (a.w * a.h) a.cells) (leb (a.most_grids * (a.w * a.h)) (length a.list)) p
+          ∙ sym (at_clues ∙ ap (λ (o : Math.Option (List Clue)). elim o as (λ _. Rules.Answer) [ Math.some c ↦ test_cells a c | Math.none ↦ untouched a 14 ]) read)
         where
-          go : (u v : Bool) → n ≡ lent_fault u v → untouched a n ≡ (elim u as (λ _. Rules.Answer) [
+          go : (u v : Bool) → Err e ≡ accept_lent u v → untouched a (refusal_number e) ≡ (elim u as (λ _. Rules.Answer) [
             | true ↦ elim v as (λ _. Rules.Answer) [ true ↦ searched a clues | false ↦ untouched a 16 ]
             | false ↦ untouched a 15
           ])
-          go false v e = ap (untouched a) e
-          go true false e = ap (untouched a) e
-          go true true e = absurd (some-fault e)
+          go false v q = same_refusal e Cells (cc)
+          go true false q = same_refusal e Variants.List (cc)
+          go true true q = cc
 
-      pub accepted : 0 ≡ lent → Accepted a clues
-      accepted e =
-          let r = lent_passed (board a.k (a.w * a.h) a.cells) (leb (a.most_grids * (a.w * a.h)) (length a.list)) e in
-          record { width = sides.0; height = sides.1; colours = tests.1; limited = tests.2; read = read; cells = r.0; room = r.1 }
+      module _ (passes : Ok tt ≡ lent) where
+        pub accepted : Accepted a clues
+        accepted = record { width = sides.0; height = sides.1; colours = tests.1; limited = tests.2; read = read; cells = both.0; room = both.1 }
+          where
+            go : (u v : Bool) → Ok tt ≡ accept_lent u v → (u ≡ true) × (v ≡ true)
+            go true true q = (refl, refl)
+            go true false q = cc
+            go false v q = cc
 
-      pub accepted_answer : 0 ≡ lent → {r : Rules.Answer} → r ≡ searched a clues → r ≡ solve a
-      accepted_answer e h = h ∙ sym (accepted_searched a clues (accepted e))
+            both : (board a.k (a.w * a.h) a.cells ≡ true) × (leb (a.most_grids * (a.w * a.h)) (length a.list) ≡ true)
+            both = go (board a.k (a.w * a.h) a.cells) (leb (a.most_grids * (a.w * a.h)) (length a.list)) passes
+
+        pub accepted_answer : {r : Rules.Answer} → r ≡ searched a clues → r ≡ solve a
+        accepted_answer h = h ∙ sym (accepted_searched a clues accepted)
 
 -- ## One answer
 
--- two results that the contract of `solve` allows for one input are equal: every number, and every lent byte
-pub one_answer : (a : Asked) (r s : Answer) (cells out list last : List ℕ) → answer r cells list ≡ solve a → answer s out last ≡ solve a → (r ≡ s) × (cells ≡ out) × (list ≡ last)
+-- what comes of a puzzle, or why it is refused, stands at its number
+kinds : List (Result Outcome Refusal)
+kinds = replicate 2 (Ok Solved) ++ (Ok Listed ∷ Ok DeadEnd ∷ []) ++ replicate 7 (Ok Solved)
+    ++ (Err Sides ∷ Err Colours ∷ Err Limits ∷ Err Clues ∷ Err Cells ∷ Err Variants.List ∷ []) ++ replicate 2 (Ok Solved) ++ (Err Rate ∷ Err Grid ∷ [])
+
+met : List (Option Limit)
+met = None ∷ Some Grids ∷ Some Steps ∷ Some Depth ∷ []
+
+outcome_at : (o : Outcome) → get_or kinds (outcome_number o) (Ok Solved) ≡ Ok o
+unfolding kinds
+outcome_at Solved = refl
+outcome_at Listed = refl
+outcome_at DeadEnd = refl
+
+refusal_at : (e : Refusal) → get_or kinds (refusal_number e) (Ok Solved) ≡ Err e
+unfolding kinds
+refusal_at Sides = refl
+refusal_at Colours = refl
+refusal_at Limits = refl
+refusal_at Clues = refl
+refusal_at Cells = refl
+refusal_at Variants.List = refl
+refusal_at Rate = refl
+refusal_at Grid = refl
+
+limit_at : (m : Option Limit) → get_or met (limit_number m) None ≡ m
+unfolding met
+limit_at None = refl
+limit_at (Some Grids) = refl
+limit_at (Some Steps) = refl
+limit_at (Some Depth) = refl
+
+with_counts : Result Outcome Refusal → Stats → Result Answer Refusal
+with_counts (Ok o) s = Ok (record { outcome = o; stats = s })
+with_counts (Err e) s = Err e
+
+-- so that the numbers tell what they are the numbers of
+result_of : Rules.Answer → Result Answer Refusal
+result_of v = with_counts (get_or kinds v.number (Ok Solved)) (record { grids = v.grids; steps = v.steps; deepest = v.deepest; limit = get_or met v.limit None })
+
+told : (r : Result Answer Refusal) (cells list : List ℕ) → result_of (answer r cells list) ≡ r
+unfolding result_of with_counts
+told (Ok a) cells list = λ j. with_counts (outcome_at a.outcome j) (record a.stats { limit = limit_at a.stats.limit j })
+told (Err e) cells list = ap (λ k. with_counts k (record { grids = 0; steps = 0; deepest = 0; limit = get_or met 0 None })) (refusal_at e)
+
+-- two results that the contract of `solve` allows for one input are equal: what comes of it with every count, or why it is refused, and every lent byte
+pub one_answer : (a : Asked) (r s : Result Answer Refusal) (cells out list last : List ℕ) → answer r cells list ≡ solve a → answer s out last ≡ solve a → (r ≡ s) × (cells ≡ out) × (list ≡ last)
 one_answer a r s cells out list last p q =
     let e : answer r cells list ≡ answer s out last = p ∙ sym q in
-    (ap (λ v. record { number = v.number; grids = v.grids; steps = v.steps; deepest = v.deepest; limit = v.limit }) e, ap (λ v. v.cells) e, ap (λ v. v.list) e)
+    (sym (told r cells list) ∙ ap result_of e ∙ told s out last, ap (λ v. v.cells) e, ap (λ v. v.list) e)

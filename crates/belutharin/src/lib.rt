@@ -6,5 +6,7 @@ mod refusals;
 mod searching;
 mod solving;
 
-pub use answers::Answer;
+pub use answers::{Answer, Numbers, Outcome};
+pub use rules::Refusal;
+pub use runs::{Limit, Stats};
 pub use solving::solve;

@@ -1,14 +1,11 @@
-// The tests of an input, but for that of its clue bytes, in their order; the first that fails gives the number.
+// The tests of an input, but for that of its clue bytes, in their order; the first that fails refuses it.
 ghost use Rattle.std.specs.Prelude.{◌≡◌, ◌&&◌, ◌*◌, ◌≤◌, leb, length};
 ghost use Rattle.rules.specs.Answers.{side, colour_count, limits, board};
-ghost use Rattle.belutharin.specs.Refusals.{number_fault, lent_fault};
+ghost use Rattle.belutharin.specs.Refusals.{accept_numbers, accept_lent};
 
 use lines::within;
 use puzzles::cells_allowed;
-use rules::{
-    ACCEPTED, CELLS_REFUSED, COLOURS_REFUSED, LARGEST_SIDE, LIMITS_REFUSED, LIST_REFUSED,
-    MOST_BUDGET, MOST_COLOURS, MOST_DEPTH, MOST_GRIDS, SIDES_REFUSED,
-};
+use rules::{LARGEST_SIDE, MOST_BUDGET, MOST_COLOURS, MOST_DEPTH, MOST_GRIDS, Refusal};
 use runs::Limits;
 
 // Whether both sides are legal.
@@ -22,35 +19,42 @@ fn sides_given(w: usize, h: usize) -> bool
 fn limits_given(l: Limits) -> bool
     ensures { result ≡ limits l.grids l.depth l.budget }
 {
-    l.grids <= MOST_GRIDS && (l.depth <= MOST_DEPTH && l.budget <= MOST_BUDGET)
+    l.grids <= MOST_GRIDS && l.depth <= MOST_DEPTH && l.budget <= MOST_BUDGET
 }
 
-// The tests before that of the clue bytes: 11 for the sides, 12 for the colours, 13 for the limits, or `ACCEPTED`.
-pub fn number_fault(w: usize, h: usize, k: usize, l: Limits) -> u8
-    ensures { result ≡ number_fault (side w && side h) (colour_count k) (limits l.grids l.depth l.budget) }
+// The tests before that of the clue bytes: of the sides, the colours and the limits.
+pub fn accept_numbers(w: usize, h: usize, k: usize, l: Limits) -> Result<(), Refusal>
+    ensures { result ≡ accept_numbers (side w && side h) (colour_count k) (limits l.grids l.depth l.budget) }
 {
     if !sides_given(w, h) {
-        return SIDES_REFUSED;
+        return Err(Refusal::Sides);
     }
     if !within(1, MOST_COLOURS, k) {
-        return COLOURS_REFUSED;
+        return Err(Refusal::Colours);
     }
     if !limits_given(l) {
-        return LIMITS_REFUSED;
+        return Err(Refusal::Limits);
     }
-    ACCEPTED
+    Ok(())
 }
 
-// The tests after it: 15 for the cells, 16 for the room of the list, or `ACCEPTED`.
-pub fn lent_fault(k: usize, w: usize, h: usize, grids: usize, cells: &[u8], list: &[u8]) -> u8
+// The tests after it: of the cells, and of the room of the list.
+pub fn accept_lent(
+    k: usize,
+    w: usize,
+    h: usize,
+    grids: usize,
+    cells: &[u8],
+    list: &[u8],
+) -> Result<(), Refusal>
     requires { (k ≤ 7) × (w ≤ 16) × (h ≤ 16) × (grids ≤ 128) }
-    ensures { result ≡ lent_fault (board k (w * h) cells.now) (leb (grids * (w * h)) (length list.now)) }
+    ensures { result ≡ accept_lent (board k (w * h) cells.now) (leb (grids * (w * h)) (length list.now)) }
 {
     if !cells_allowed(k, w, h, cells) {
-        return CELLS_REFUSED;
+        return Err(Refusal::Cells);
     }
     if list.len() < grids * (w * h) {
-        return LIST_REFUSED;
+        return Err(Refusal::List);
     }
-    ACCEPTED
+    Ok(())
 }

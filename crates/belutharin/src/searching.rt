@@ -4,64 +4,51 @@ ghost use Rattle.boards.specs.Board.{Sized};
 ghost use Rattle.boards.specs.Table.{Playable};
 ghost use Rattle.belutharin.specs.Answers.{Checks, Given, Searches};
 
-use crate::answers::{Answer, counted, plain};
-use backtracking::search;
-use boards::Board;
+use crate::answers::{Answer, FRESH, Outcome};
+use backtracking::{Task, search};
+use boards::{Board, LINES};
 use guesses::choose_directions;
+use lines::Machine;
 use probing::run_unsolved;
 use puzzles::give_back;
-use rules::{DEAD_END, LISTED, SOLVED};
-use runs::{Limits, Stats};
 
 // M1: a board that is solved before the search passes the final check, and is the answer; or there is a dead end.
-fn checked(b: Board, cells: &mut [u8], masks: &[u32]) -> Answer
-    requires { Sized b × Playable b.w b.h masks.now × (length cells.old ≡ b.w * b.h) }
-    ensures { (list : List ℕ) → Checks b masks.now cells.old list result cells.new list }
+fn checked(b: Board, cells: &mut [u8], machines: &[Machine; LINES]) -> Answer
+    requires { Sized b × Playable b.w b.h machines.now × (length cells.old ≡ b.w * b.h) }
+    ensures { (list : List ℕ) → Checks b machines.now cells.old list result cells.new list }
 {
-    if b.check(masks) {
+    if b.check(machines) {
         give_back(b, cells);
-        return plain(SOLVED);
+        return Answer::at_once(Outcome::Solved);
     }
-    plain(DEAD_END)
+    Answer::at_once(Outcome::DeadEnd)
 }
 
 // The whole run: a first run of probing, and the search at depth 0 with zeros. At a dead end all is untouched.
-pub fn searched(given: Board, cells: &mut [u8], list: &mut [u8], masks: &[u32], l: Limits) -> Answer
-    requires { Given given masks.now cells.old list.old l }
-    ensures { Searches given masks.now l cells.old list.old result cells.new list.new }
+pub fn searched(given: Board, cells: &mut [u8], list: &mut [u8], task: Task) -> Answer
+    requires { Given given task.machines.now cells.old list.old task.limits }
+    ensures { Searches given task.entry.machines.now task.entry.limits cells.old list.old result cells.new list.new }
 {
     if given.is_solved_full() {
-        return checked(given, cells, masks);
+        return checked(given, cells, task.machines);
     }
-    let p = run_unsolved(given, masks);
-    let b = p.board;
-    let notes = p.notes;
-    if !p.ok {
-        return plain(DEAD_END);
-    }
-    if b.is_solved_full() {
-        return checked(b, cells, masks);
-    }
-    let zeros = Stats {
-        grids: 0,
-        steps: 0,
-        deepest: 0,
-        limit: 0,
+    let Some((b, notes)) = run_unsolved(given, task.machines).end else {
+        return Answer::at_once(Outcome::DeadEnd);
     };
-    let e = search(
-        b,
-        choose_directions(b, notes),
-        list,
-        masks,
-        zeros,
-        l,
-        l.depth + 1,
-    );
-    let end = e.board;
-    let s = e.stats;
-    if e.dead {
-        return counted(DEAD_END, s);
+    if b.is_solved_full() {
+        return checked(b, cells, task.machines);
     }
-    give_back(end, cells);
-    counted(LISTED, s)
+    let guesses = choose_directions(b, notes);
+    let ended = search(b, guesses, list, FRESH, task, task.limits.depth + 1);
+    if ended.dead {
+        return Answer {
+            outcome: Outcome::DeadEnd,
+            stats: ended.stats,
+        };
+    }
+    give_back(ended.board, cells);
+    Answer {
+        outcome: Outcome::Listed,
+        stats: ended.stats,
+    }
 }

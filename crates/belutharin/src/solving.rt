@@ -4,16 +4,13 @@ ghost use Rattle.rules.specs.Answers.{solve};
 ghost use Rattle.rules.specs.Promises.{Promised};
 ghost use Rattle.belutharin.specs.Answers.{asked, answer};
 
-use crate::answers::{Answer, plain};
-use crate::refusals::{lent_fault, number_fault};
+use crate::answers::Answer;
+use crate::refusals::{accept_lent, accept_numbers};
 use crate::searching::searched;
-use boards::MACHINE;
+use backtracking::Task;
 use puzzles::{board_of, read_table};
-use rules::{ACCEPTED, CLUES_REFUSED, LARGEST_SIDE};
+use rules::Refusal;
 use runs::Limits;
-
-// As many numbers as the machines of all lines take.
-const TABLE: usize = 2 * LARGEST_SIDE * MACHINE;
 
 // The search over a caller's bytes: the sides, how many colours besides blank, the clues, the board's cells and the list that are lent, and the limits.
 // The answer, every count and every lent byte are those of the rules. They keep the promise of `Promised`: what may be said of the fitting grids after a dead end, a solved board or a list.
@@ -27,26 +24,18 @@ pub fn solve(
     most_grids: usize,
     most_depth: usize,
     budget: u64,
-) -> Answer
-    ensures { (answer result cells.new list.new ≡ solve (asked w h k most_grids most_depth budget clues.now cells.old list.old))
-        × Promised (asked w h k most_grids most_depth budget clues.now cells.old list.old) (answer result cells.new list.new) }
+) -> Result<Answer, Refusal>
+    ensures answered { answer result cells.new list.new ≡ solve (asked w h k most_grids most_depth budget clues.now cells.old list.old) }
+    ensures promised { Promised (asked w h k most_grids most_depth budget clues.now cells.old list.old) (answer result cells.new list.new) }
 {
-    let l = Limits {
+    let limits = Limits {
         grids: most_grids,
         depth: most_depth,
         budget,
     };
-    let early = number_fault(w, h, k, l);
-    if early != ACCEPTED {
-        return plain(early);
-    }
-    let mut masks = [0u32; TABLE];
-    if !read_table(k, w, h, clues, &mut masks) {
-        return plain(CLUES_REFUSED);
-    }
-    let late = lent_fault(k, w, h, most_grids, cells, list);
-    if late != ACCEPTED {
-        return plain(late);
-    }
-    searched(board_of(w, h, cells), cells, list, &masks, l)
+    accept_numbers(w, h, k, limits)?;
+    let machines = &read_table(k, w, h, clues).ok_or(Refusal::Clues)?;
+    accept_lent(k, w, h, most_grids, cells, list)?;
+    let task = Task { machines, limits };
+    Ok(searched(board_of(w, h, cells), cells, list, task))
 }

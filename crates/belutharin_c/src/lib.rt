@@ -9,7 +9,7 @@ ghost use Rattle.belutharin.specs.Answers.{asked};
 ghost use Rattle.belutharin_c.specs.Handing.{part_at, start_of, size_of};
 ghost use Rattle.belutharin_c.specs.Answering.{answer};
 
-use rules::ACCEPTED;
+use belutharin::Numbers;
 
 // The search: its number, and through the last four the grids stored, the steps, the deepest depth and the first limit met.
 #[unsafe(no_mangle)]
@@ -33,12 +33,14 @@ pub extern "C" fn belutharin_solve(
     ensures promised { Promised (asked w h k most_grids most_depth budget clues.now cells.old list.old)
         (answer result grids.new steps.new deepest.new limit.new cells.new list.new) }
 {
-    let a = belutharin::solve(w, h, k, clues, cells, list, most_grids, most_depth, budget);
-    *grids = a.grids;
-    *steps = a.steps;
-    *deepest = a.deepest;
-    *limit = a.limit;
-    a.number
+    let answer = Numbers::from(belutharin::solve(
+        w, h, k, clues, cells, list, most_grids, most_depth, budget,
+    ));
+    *grids = answer.grids;
+    *steps = answer.steps;
+    *deepest = answer.deepest;
+    *limit = answer.limit;
+    answer.number
 }
 
 // Reducing one line: its number, and after 1 the reduced sets in the cells.
@@ -47,7 +49,7 @@ pub extern "C" fn belutharin_reduce_line(k: usize, clue: &[u8], cells: &mut [u8]
     ensures answered { line result cells.new ≡ reduce_line k clue.now cells.old }
     ensures promised { LinePromised k clue.now cells.old (line result cells.new) }
 {
-    lines::reduce_line(k, clue, cells)
+    lines::line_number(lines::reduce_line(k, clue, cells))
 }
 
 // The rate: its number, and through the last the rate.
@@ -55,9 +57,16 @@ pub extern "C" fn belutharin_reduce_line(k: usize, clue: &[u8], cells: &mut [u8]
 pub extern "C" fn belutharin_rate(max: u64, min: u64, rate: &mut f64) -> u8
     ensures { Answered max min result rate.new }
 {
-    let rated = rates::rate(max, min);
-    *rate = rated.rate;
-    rated.number
+    match rates::rate(max, min) {
+        Ok(found) => {
+            *rate = found;
+            0
+        }
+        Err(refusal) => {
+            *rate = 0.0;
+            refusal.number()
+        }
+    }
 }
 
 // Grid number i of n in a list: its number, and through the last two where its part starts in the list and the part's size, both 0 if it is refused.
@@ -74,14 +83,16 @@ pub extern "C" fn belutharin_grid(
     ensures answered { part_at list.now result start.new size.new ≡ grid_of list.now w h n i }
     ensures placed { (start.new ≡ start_of result i (w * h)) × (size.new ≡ size_of result (w * h)) }
 {
-    let number = grids::number(list, w, h, n, i);
-    if number != ACCEPTED {
-        *start = 0;
-        *size = 0;
-        return number;
+    match grids::place_of(list, w, h, n, i) {
+        Ok(place) => {
+            *start = place.start;
+            *size = place.size;
+            0
+        }
+        Err(refusal) => {
+            *start = 0;
+            *size = 0;
+            refusal.number()
+        }
     }
-    let cells = w * h;
-    *start = i * cells;
-    *size = cells;
-    number
 }

@@ -49,30 +49,3 @@ impl Refusal {
         self as u8
     }
 }
-
-// No refusal, which no caller is given, but for a rate or a grid, which have no other number.
-pub const ACCEPTED: u8 = 0;
-
-pub const REDUCED: u8 = 1;
-
-pub const CONTRADICTION: u8 = 3;
-
-pub const SOLVED: u8 = 1;
-
-pub const LISTED: u8 = 2;
-
-pub const DEAD_END: u8 = 3;
-
-pub const SIDES_REFUSED: u8 = 11;
-
-pub const COLOURS_REFUSED: u8 = 12;
-
-pub const LIMITS_REFUSED: u8 = 13;
-
-pub const CLUES_REFUSED: u8 = 14;
-
-pub const CELLS_REFUSED: u8 = 15;
-
-pub const LIST_REFUSED: u8 = 16;
-
-pub const GRID_REFUSED: u8 = 20;

@@ -1,80 +1,50 @@
 -- By the tests in their order; an input that passes all is searched. What the rules answer keeps the promise (`promised`).
-use mathlib.Core.Path.{sym, ap, ◌∙◌}
-use native.Mathlib.Omega.{arith}
-use borrow.Author.Tests.{not-true, not-false}
-use Rattle.belutharin.specs.Answers.{asked, answer}
-use Rattle.belutharin.proofs.Refusing.{promised, number_refused, legal_width, legal_height, legal_colours, legal_limits}
-use Rattle.belutharin.proofs.Accepting.{unread, unlent, cells_long, given, solved_all}
-use borrow.Author.Rules.{rules}
+use Rattle.std.proofs.Common.{◌≡◌}
+use Rattle.std.proofs.lemmas.Result.{err_from_is_err_and}
+use Rattle.rules.specs.declared.Refusal.TheVariants.{Clues}
+use Rattle.belutharin.specs.Answers.{asked}
+use Rattle.belutharin.proofs.Refusing.{promised, numbers_refused, clues_refused, lent_refused}
+use Rattle.belutharin.proofs.Accepting.{given, solved_all}
 use Rattle.belutharin.proofs.solving.solve.Goals as goal
 
-pub returns-then-early-ne-ACCEPTED : goal.returns-then-early-ne-ACCEPTED
-returns-then-early-ne-ACCEPTED c =
+pub returns-in_err-accept_numbers-clause-answered : goal.returns-in_err-accept_numbers-clause-answered
+returns-in_err-accept_numbers-clause-answered c =
     let a = c.args in
-    let A = asked a.w a.h a.k a.most_grids a.most_depth a.budget a.clues.now a.cells.now a.list.now in
-    let n = c.number_fault-early in
-    promised A (ap (λ v. answer v a.cells.now a.list.now) c.plain.ensures ∙ number_refused A n.result n.ensures c.if-early-ne-ACCEPTED.true)
+    let q = asked a.w a.h a.k a.most_grids a.most_depth a.budget a.clues.now a.cells.now a.list.now in
+    let p = err_from_is_err_and c.from_residual.result c.from_residual.ensures.1 in
+    rw (p.1, p.2) (numbers_refused q _ c.in_err-accept_numbers.ensures)
 
-pub read_table-requires : goal.read_table-requires
-read_table-requires c =
+pub returns-in_err-machines-clause-answered : goal.returns-in_err-machines-clause-answered
+returns-in_err-machines-clause-answered c =
     let a = c.args in
-    let A = asked a.w a.h a.k a.most_grids a.most_depth a.budget a.clues.now a.cells.now a.list.now in
-    let ok = sym c.if-early-ne-ACCEPTED.false ∙ c.number_fault-early.ensures in
-    (omega (arith, legal_colours A ok), (legal_width A ok).1, (legal_height A ok).1, search rules)
+    let q = asked a.w a.h a.k a.most_grids a.most_depth a.budget a.clues.now a.cells.now a.list.now in
+    let p = err_from_is_err_and c.from_residual-in_err-machines.result c.from_residual-in_err-machines.ensures.1 in
+    let none = rw c.in_err-machines.ensures.ok_part at c.read_table.ensures in
+    let clues = rw c.in_err-machines.ensures.ok_part at c.in_err-machines.ensures.value in
+    let is : c.in_err-machines.field-0.0 ≡ Clues = cc in
+    rw (p.1, p.2) (clues_refused q c.in_ok-accept_numbers.ensures none _ is)
 
-pub returns-then-not-read_table : goal.returns-then-not-read_table
-returns-then-not-read_table c =
+pub returns-in_err-accept_lent-clause-answered : goal.returns-in_err-accept_lent-clause-answered
+returns-in_err-accept_lent-clause-answered c =
     let a = c.args in
-    let A = asked a.w a.h a.k a.most_grids a.most_depth a.budget a.clues.now a.cells.now a.list.now in
-    let ok = sym c.if-early-ne-ACCEPTED.false ∙ c.number_fault-early.ensures in
-    let t = c.read_table in
-    promised A (ap (λ v. answer v a.cells.now a.list.now) c.plain-then-not-read_table.ensures ∙ unread A ok _ t.result t.ensures (not-true _ c.if-not-read_table.true-raw))
-
-pub lent_fault-late-requires : goal.lent_fault-late-requires
-lent_fault-late-requires c =
-    let a = c.args in
-    let A = asked a.w a.h a.k a.most_grids a.most_depth a.budget a.clues.now a.cells.now a.list.now in
-    let ok = sym c.if-early-ne-ACCEPTED.false ∙ c.number_fault-early.ensures in
-    (omega (arith, legal_colours A ok), (legal_width A ok).1, (legal_height A ok).1, (legal_limits A ok).0)
-
-pub returns-then-late-ne-ACCEPTED : goal.returns-then-late-ne-ACCEPTED
-returns-then-late-ne-ACCEPTED c =
-    let a = c.args in
-    let A = asked a.w a.h a.k a.most_grids a.most_depth a.budget a.clues.now a.cells.now a.list.now in
-    let ok = sym c.if-early-ne-ACCEPTED.false ∙ c.number_fault-early.ensures in
-    let t = c.read_table in
-    let right = not-false _ c.if-not-read_table.false-raw in
-    let n = c.lent_fault-late in
-    promised A (ap (λ v. answer v a.cells.now a.list.now) c.plain-then-late-ne-ACCEPTED.ensures ∙ unlent A ok _ t.result t.ensures right n.result n.ensures c.if-late-ne-ACCEPTED.true)
-
-pub board_of-requires : goal.board_of-requires
-board_of-requires c =
-    let a = c.args in
-    let A = asked a.w a.h a.k a.most_grids a.most_depth a.budget a.clues.now a.cells.now a.list.now in
-    let ok = sym c.if-early-ne-ACCEPTED.false ∙ c.number_fault-early.ensures in
-    let t = c.read_table in
-    let right = not-false _ c.if-not-read_table.false-raw in
-    let lent = sym c.if-late-ne-ACCEPTED.false ∙ c.lent_fault-late.ensures in
-    ((legal_width A ok).0, (legal_width A ok).1, (legal_height A ok).0, (legal_height A ok).1, cells_long A ok _ t.result t.ensures right lent)
+    let q = asked a.w a.h a.k a.most_grids a.most_depth a.budget a.clues.now a.cells.now a.list.now in
+    let p = err_from_is_err_and c.from_residual-in_err-accept_lent.result c.from_residual-in_err-accept_lent.ensures.1 in
+    let read = rw c.in_ok-machines.ensures.ok_part at c.read_table.ensures in
+    rw (p.1, p.2) (lent_refused q c.in_ok-accept_numbers.ensures read.0 read.1 _ c.in_err-accept_lent.ensures)
 
 pub searched-requires : goal.searched-requires
 searched-requires c =
     let a = c.args in
-    let A = asked a.w a.h a.k a.most_grids a.most_depth a.budget a.clues.now a.cells.now a.list.now in
-    let ok = sym c.if-early-ne-ACCEPTED.false ∙ c.number_fault-early.ensures in
-    let t = c.read_table in
-    let right = not-false _ c.if-not-read_table.false-raw in
-    let lent = sym c.if-late-ne-ACCEPTED.false ∙ c.lent_fault-late.ensures in
-    let e = c.board_of.ensures in
-    given A ok _ t.result t.ensures right lent _ e.0 e.1 e.2
+    let q = asked a.w a.h a.k a.most_grids a.most_depth a.budget a.clues.now a.cells.now a.list.now in
+    let read = rw c.in_ok-machines.ensures.ok_part at c.read_table.ensures in
+    let b = c.board_of.ensures in
+    given q c.in_ok-accept_numbers.ensures read.0 read.1 c.in_ok-accept_lent.ensures _ read.2 _ b.0 b.1 b.2
 
 pub returns : goal.returns
 returns c =
     let a = c.args in
-    let A = asked a.w a.h a.k a.most_grids a.most_depth a.budget a.clues.now a.cells.now a.list.now in
-    let ok = sym c.if-early-ne-ACCEPTED.false ∙ c.number_fault-early.ensures in
-    let t = c.read_table in
-    let right = not-false _ c.if-not-read_table.false-raw in
-    let lent = sym c.if-late-ne-ACCEPTED.false ∙ c.lent_fault-late.ensures in
-    let e = c.board_of.ensures in
-    promised A (solved_all A ok _ t.result t.ensures right lent _ e.0 e.1 e.2 _ _ _ c.searched.ensures)
+    let q = asked a.w a.h a.k a.most_grids a.most_depth a.budget a.clues.now a.cells.now a.list.now in
+    let read = rw c.in_ok-machines.ensures.ok_part at c.read_table.ensures in
+    let b = c.board_of.ensures in
+    let p = promised q (solved_all q c.in_ok-accept_numbers.ensures read.0 read.1 c.in_ok-accept_lent.ensures _ read.2 _ b.0 b.1 b.2 _ _ _ c.searched.ensures) in
+    record { answered = p.0; promised = p.1 }
