@@ -18,13 +18,12 @@ use notes::Notes;
 use queues::Queue;
 
 // The cells that wait in a queue, taken out one after the other.
-fn in_order(q: Queue) -> ArrayVec<CellNo, 256>
+fn in_order(mut q: Queue) -> ArrayVec<CellNo, 256>
     requires { q.n ≤ 256 }
     ensures { cell_numbers result.items ≡ in_order higher (queue_of q) }
 {
-    let mut left = q;
     let mut order = ArrayVec::new();
-    while let Some(c) = left.take() {
+    while let Some(c) = q.take() {
         order.push(c);
     }
     order

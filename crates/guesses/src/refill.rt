@@ -54,14 +54,13 @@ pub fn any_closed(b: Board, made: [u8; 256]) -> bool
 }
 
 // One guess more was made and was not dead.
-pub fn mark(made: [u8; 256], c: CellNo, x: Colour) -> [u8; 256]
+pub fn mark(mut made: [u8; 256], c: CellNo, x: Colour) -> [u8; 256]
     requires { x.0 < 8 }
     ensures { (l : List Guess) → Made made l → Made result (guess c.0 x.0 ∷ l) }
 {
-    let mut m = made;
     let i = c.0 as usize;
     if i < 256 {
-        m[i] = cells::including(m[i], x);
+        made[i] = cells::including(made[i], x);
     }
-    m
+    made
 }

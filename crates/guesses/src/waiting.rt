@@ -82,13 +82,12 @@ impl Guesses {
     }
 
     // A guess comes to wait before the others, where there is room.
-    pub fn push(self, c: CellNo, x: Colour) -> Guesses
+    pub fn push(mut self, c: CellNo, x: Colour) -> Guesses
         requires { self.head ≤ most_waiting }
         ensures { IfRoom (guess c.0 x.0 ∷ guesses_of self) result }
     {
-        let mut g = self;
-        g.wait(c, x);
-        g
+        self.wait(c, x);
+        self
     }
 
     // Whether a guess waits.
@@ -110,14 +109,13 @@ impl Guesses {
     }
 
     // The cell's other colours not already waiting, ascending, each before the guesses that wait: so the highest goes first.
-    pub fn others(self, c: CellNo, x: Colour, set: u8) -> Guesses
+    pub fn others(mut self, c: CellNo, x: Colour, set: u8) -> Guesses
         requires { self.head ≤ most_waiting }
         ensures { IfRoom (others c.0 x.0 (colours set) (guesses_of self)) result }
     {
-        let mut g = self;
         for y in 0..8 {
-            g.other(c, x, set, Colour(y));
+            self.other(c, x, set, Colour(y));
         }
-        g
+        self
     }
 }

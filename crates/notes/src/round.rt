@@ -62,16 +62,15 @@ impl Notes {
     }
 
     // A cell is noted: its set, and how many cells each colour newly solves. A cell past the last is not noted.
-    pub fn note(self, c: CellNo, s: u8, counts: [u8; COLOURS]) -> Notes
+    pub fn note(mut self, c: CellNo, s: u8, counts: [u8; COLOURS]) -> Notes
         requires { self.n ≤ 256 }
         ensures { Says self.n (set (notes_of self) c.0 (some (each_of s counts))) result }
     {
-        let mut r = self;
         let i = c.0 as usize;
-        if i < r.n {
-            r.notes[i] = Some(Note { set: s, counts });
+        if i < self.n {
+            self.notes[i] = Some(Note { set: s, counts });
         }
-        r
+        self
     }
 
     // What was noted of a cell, if it was popped.

@@ -48,25 +48,23 @@ impl Queue {
     }
 
     // A cell waits with a priority; one already there gets the new priority. A cell past the last is not held.
-    pub fn push(self, c: CellNo, p: f64) -> Queue
+    pub fn push(mut self, c: CellNo, p: f64) -> Queue
         requires { self.n ≤ 256 }
         ensures { Holds self.n (Queues.push c.0 p (queue_of self)) result }
     {
-        let mut q = self;
-        q.wait(c, p);
-        q
+        self.wait(c, p);
+        self
     }
 
     // Cells wait with a priority, each as if it were pushed alone; the queue is copied once for all of them.
-    pub fn push_all(self, cells: &[CellNo], p: f64) -> Queue
+    pub fn push_all(mut self, cells: &[CellNo], p: f64) -> Queue
         requires { self.n ≤ 256 }
         ensures { Holds self.n (push_all (cell_numbers cells.now) p (queue_of self)) result }
     {
-        let mut q = self;
         for c in cells {
-            q.wait(*c, p);
+            self.wait(*c, p);
         }
-        q
+        self
     }
 
     // The cell that goes first of those that wait, and its priority.
@@ -90,12 +88,11 @@ impl Queue {
     }
 
     // The cell that goes first of all, and the queue without it.
-    pub fn pop(self) -> Option<(CellNo, Queue)>
+    pub fn pop(mut self) -> Option<(CellNo, Queue)>
         requires { self.n ≤ 256 }
         ensures { PoppedFrom self result }
     {
-        let mut q = self;
-        let c = q.take()?;
-        Some((c, q))
+        let c = self.take()?;
+        Some((c, self))
     }
 }

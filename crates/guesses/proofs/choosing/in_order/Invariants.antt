@@ -8,9 +8,9 @@ use Rattle.guesses.proofs.choosing.in_order.Given as goal
 
 abbrev pub invariant-loop-c : goal.invariant-loop-c
 invariant-loop-c l = record {
-  within : l.left.n ≤ 256;
-  popping : Popping (λ c. c.0) higher (queue_of l.initial.left) (queue_of l.left) 256 l.order.items;
+  within : l.q.n ≤ 256;
+  popping : Popping (λ c. c.0) higher (queue_of l.initial.q) (queue_of l.q) 256 l.order.items;
 }
 
 abbrev pub decreases-loop-c : goal.decreases-loop-c
-decreases-loop-c l = waiting (queue_of l.left)
+decreases-loop-c l = waiting (queue_of l.q)

@@ -8,10 +8,10 @@ pub loop-y-preserved : goal.loop-y-preserved
 loop-y-preserved c =
     let l = c.loop-y in
     let a = c.args in
-    adding_turn a.c.0 a.x.0 a.set _ l.g _ l.y l.invariant c.loop-y-test.true c.other.ensures
+    adding_turn a.c.0 a.x.0 a.set _ l.self _ l.y l.invariant c.loop-y-test.true c.other.ensures
 
 pub returns : goal.returns
 returns c =
     let l = c.loop-y in
     let a = c.args in
-    adding_end a.c.0 a.x.0 a.set _ l.g l.y l.invariant c.loop-y-test.false
+    adding_end a.c.0 a.x.0 a.set _ l.self l.y l.invariant c.loop-y-test.false
