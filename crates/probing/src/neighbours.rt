@@ -1,7 +1,6 @@
 // A cell's unsolved neighbours: finding them, and pushing them.
-ghost use Rattle.std.specs.Prelude.{◌≡◌, map, not, ◌&&◌, ◌*◌, ◌≤◌, ◌<◌};
+ghost use Rattle.std.specs.Prelude.{◌≡◌, map, ◌*◌, ◌≤◌, ◌<◌};
 ghost use Rattle.rules.specs.Lists.{joined};
-ghost use Rattle.rules.specs.Sets.{single};
 ghost use Rattle.rules.specs.Boards.{Puzzle, newly, beside, around};
 ghost use Rattle.rules.specs.Floats.{float};
 ghost use Rattle.rules.specs.Probing.{push_around, push_both};
@@ -56,13 +55,6 @@ pub fn around(b: &Board, c: CellNo) -> ArrayVec<CellNo, 4>
     found
 }
 
-// Whether a cell is newly solved: its set was a and is b.
-fn newly(a: u8, b: u8) -> bool
-    ensures { result ≡ not (single a) && single b }
-{
-    !cells::is_solved(a) && cells::is_solved(b)
-}
-
 // The unsolved neighbours of the cells that are newly solved from start to end are pushed, all at once.
 fn push_new(start: &Board, end: &Board, queue: Queue) -> Queue
     requires { Sized start.now × SameSize start.now end.now × (queue.n ≤ 256) }
@@ -70,7 +62,7 @@ fn push_new(start: &Board, end: &Board, queue: Queue) -> Queue
 {
     let mut found: ArrayVec<CellNo, MOST_FOUND> = ArrayVec::new();
     for i in 0..end.w * end.h {
-        if newly(start.cells[i], end.cells[i]) {
+        if boards::is_new(start.cells[i], end.cells[i]) {
             for n in around(end, CellNo(i as u16)).iter() {
                 found.push(*n);
             }
