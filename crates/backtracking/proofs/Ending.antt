@@ -1,7 +1,7 @@
 -- What comes after a guess: it is noted as made, or its colour is gone.
 use mathlib.Core.Path.{◌≡◌, refl, sym, ap, subst, ◌∙◌}
-use mathlib.Core.Bool.{Bool, true, false}
-use mathlib.Core.List.{List, ◌∷◌}
+use mathlib.Core.Bool.{Bool, true}
+use mathlib.Core.List.{List}
 use Prim.Native.Nat.{ℕ, suc, ◌*◌, ◌^◌, ◌≤◌, ◌<◌}
 use native.Mathlib.Omega.{arith}
 use lib.ListN.{length, get_or}
@@ -11,7 +11,7 @@ use Rattle.rules.specs.Sets.{has, empty, colours, without}
 use Rattle.rules.specs.Boards as Rules
 use Rattle.rules.specs.Boards.{at, remove}
 use Rattle.rules.specs.Probing.{Run}
-use Rattle.rules.specs.Guesses.{Guess, guess}
+use Rattle.rules.specs.Guesses.{Guess}
 use Rattle.rules.specs.Answers.{most_colours, most_waiting}
 use Rattle.rules.specs.Search.{End, dead, not_dead, others}
 use Rattle.rules.proofs.Tests.{on_test, clash}
@@ -32,7 +32,7 @@ use Rattle.backtracking.specs.Setting.{Setting, RunIs, Fine, Few, Stands, OwnTo,
 use Rattle.backtracking.specs.Comes.{ProbesNode, Ends}
 use Rattle.backtracking.specs.declared.ended.Ended.{Ended}
 use Rattle.backtracking.specs.declared.node.Node.{Node}
-use Rattle.backtracking.proofs.Boarding.{size_same, size_more, size_with, size_cells, of_size, cell_at, remove_with, empty_zero, not_zero}
+use Rattle.backtracking.proofs.Boarding.{size_more, size_with, size_cells, of_size, cell_at, remove_with, empty_zero, not_zero}
 use Rattle.backtracking.proofs.Owning.{OwnBelow, own_below}
 
 module _ (t : Node) (c x : ℕ) (isdead : Bool) (machines : List Machine) (list : List ℕ) (l : Limits) (few : t.stats.grids ≤ l.grids) (within : t.guesses.head ≤ most_waiting) where
@@ -40,15 +40,6 @@ module _ (t : Node) (c x : ℕ) (isdead : Bool) (machines : List Machine) (list 
   abbrev Case : ControlFlow Ended Node → List ℕ → Type 0
   Case r out = (g : Setting t.board.w t.board.h machines) (b : Rules.Board) (gs : List Guess) (p : Bool) (those : List Guess) (s : Run) (d : End) → Stands g t list b gs p those s →
       isdead ≡ is_dead d → Fine g b → Few g gs → has (at b c) x ≡ true → (d ≡ dead → t.stats.grids < l.grids) → TurnTo g r out (after g.puzzle b c x gs p those d s)
-
-  -- it is noted as made
-  pub ends_made : (made : List ℕ) → isdead ≡ false → ((those : List Guess) → Made t.made those → Made made (guess c x ∷ those)) →
-      Ends t c x isdead machines list l (Continue (record t { made = made })) list
-  ends_made made e f = record { within = record { size = size_same t.board; few = few; within = within }; to = go }
-    where
-      go : Case (Continue (record t { made = made })) list
-      go g b gs p those s dead is q fine room there k = clash q e
-      go g b gs p those s not_dead is q fine room there k = record { board = is.board; waiting = is.waiting; probed = is.probed; made = f those is.made; run = is.run }
 
   module _ (a : Board) (low : c < t.board.w * t.board.h) (died : isdead ≡ true) (gone : a ≡ with_cell t.board c (without (get_or t.board.cells c 0) x)) where
     pub gone_size : SameSize t.board a

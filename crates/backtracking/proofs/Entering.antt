@@ -55,14 +55,6 @@ module _ {w h : ℕ} {machines : List Machine} (g : Setting w h machines) (l : L
 module _ {b : Board} {c x : ℕ} {machines : List Machine} {list : List ℕ} {l : Limits} (d : ℕ) {s : Stats} (room : s.grids < l.grids) where
   -- ## The colour is set
 
-  pub set_died : {r : Ended} {out : List ℕ} → SetsGuess b c x machines list l s (Break r) out → Enters b c x machines list l d s (Break r) out
-  set_died {r} {out} w = record { within = w.within; to = λ g t is fine k. go g (set_guess g.puzzle (board_of b) c x t) (w.to g t is room) }
-    where
-      go : (g : Setting b.w b.h machines) (v : Went (Rules.Board × CellQueue)) → WentTo g (λ a q p. (board_of a ≡ p.0) × Holds (b.w * b.h) p.1 q) (Break r) out v →
-          EnteredTo g (Break r) out (after_setting g.puzzle (limits_of l) d v)
-      go g (died u) i = i
-      go g (went p u) i = absurd i
-
   module _ {a : Board} {q : Queue} {v : Stats} {out : List ℕ} (w : SetsGuess b c x machines list l s (Continue (a, q, v)) out) where
     -- it goes on: the rules' run, and what the guess comes to from here
     record Set-on (g : Setting b.w b.h machines) (t : Run) : Type 0 where

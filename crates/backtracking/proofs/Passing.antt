@@ -105,15 +105,6 @@ pub record Passing (t₀ : Node) (machines : List Machine) (list₀ : List ℕ) 
   pub follows : (g : Setting t₀.board.w t₀.board.h machines) (n : Search.Node) → NodeIs g t₀ list₀ n → NodeFine g n → Follows g l left t list n
 
 module _ {t₀ : Node} {machines : List Machine} {list₀ : List ℕ} {l : Given} {left : ℕ} where
-  pub passing_starts : t₀.stats.grids ≤ l.grids → t₀.guesses.head ≤ most_waiting → Passing t₀ machines list₀ l left t₀ list₀
-  passing_starts f k = record {
-    size = record { wide = refl; high = refl };
-    few = f;
-    long = refl;
-    within = k;
-    follows = λ g n is fine. record { now = n; is = is; fine = fine; same = refl };
-  }
-
   module _ {t : Node} {list : List ℕ} (i : Passing t₀ machines list₀ l left t list) where
     -- a node of the rules that t stands for
     pub passing_stands : NodeStands t₀ machines list₀ → NodeStands t machines list

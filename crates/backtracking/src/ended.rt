@@ -15,10 +15,10 @@ pub struct Ended {
 }
 
 // Limits are asked: one that is met is noted, and what it ends is not dead.
-pub fn ask(board: Board, stats: Stats, l: Limits, depth: usize) -> ControlFlow<Ended>
-    ensures { Asks board stats l depth result }
+pub fn ask(board: Board, stats: Stats, limits: Limits, depth: usize) -> ControlFlow<Ended>
+    ensures { Asks board stats limits depth result }
 {
-    match limits_reached(stats, l, depth) {
+    match limits_reached(stats, limits, depth) {
         None => Continue(()),
         Some(m) => Break(Ended {
             dead: false,

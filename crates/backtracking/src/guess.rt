@@ -28,21 +28,21 @@ fn set_guess(
     requires { Ready board task.machines.now list.old task.limits stats × (guess.cell.0 < board.w * board.h) × (guess.colour.0 < 8) × (stats.steps < task.limits.budget) }
     ensures { SetsGuess board guess.cell.0 guess.colour.0 task.entry.machines.now list.old task.entry.limits stats result list.new }
 {
-    let q = unsolved_cells(board);
-    let s = stats.stepped(1);
+    let queue = unsolved_cells(board);
+    let stats = stats.stepped(1);
     let dead = Ended {
         dead: true,
         board,
-        stats: s,
+        stats,
     };
-    let a = board.set(guess.cell, guess.colour);
-    let Some(b) = a.propagate(guess.cell, task.machines) else {
+    let start = board.set(guess.cell, guess.colour);
+    let Some(end) = start.propagate(guess.cell, task.machines) else {
         return Break(dead);
     };
-    let Some(kept) = keep(b, list, s, task) else {
+    let Some(kept) = keep(end, list, stats, task) else {
         return Break(dead);
     };
-    Continue((b, push_both(a, b, q, guess.cell), kept))
+    Continue((end, push_both(start, end, queue, guess.cell), kept))
 }
 
 // M2: a board solved by the probing inside a guess is checked and stored at once. The guess is dead, or goes on with the board and the notes.
@@ -56,20 +56,20 @@ fn probe_guess(
     requires { Ready board task.machines.now list.old task.limits stats × (queue.n ≡ board.w * board.h) × (stats.steps < task.limits.budget) }
     ensures { ProbesGuess board (queue_of queue) task.entry.machines.now list.old task.entry.limits stats result list.new }
 {
-    let p = run(board, queue, task.machines);
-    let s = stats.stepped(p.steps);
+    let probed = run(board, queue, task.machines);
+    let stats = stats.stepped(probed.steps);
     let dead = Ended {
         dead: true,
         board,
-        stats: s,
+        stats,
     };
-    let Some((b, notes)) = p.end else {
+    let Some((end, notes)) = probed.end else {
         return Break(dead);
     };
-    let Some(kept) = keep(b, list, s, task) else {
+    let Some(kept) = keep(end, list, stats, task) else {
         return Break(dead);
     };
-    Continue((b, notes, kept))
+    Continue((end, notes, kept))
 }
 
 // A guess is set and probed, and limits are asked after each. It ends there, or where its board is solved, or the search is to go one deeper with the guesses chosen.
@@ -84,16 +84,16 @@ pub fn enter_guess(
     requires { Ready board task.machines.now list.old task.limits stats × (guess.cell.0 < board.w * board.h) × (guess.colour.0 < 8) × (stats.steps < task.limits.budget) × (stats.grids < task.limits.grids) }
     ensures { Enters board guess.cell.0 guess.colour.0 task.entry.machines.now list.old task.entry.limits depth stats result list.new }
 {
-    let (a, queue, s) = set_guess(board, guess, &mut *list, stats, task)?;
-    ask(a, s, task.limits, depth)?;
-    let (b, notes, e) = probe_guess(a, queue, &mut *list, s, task)?;
-    ask(b, e, task.limits, depth)?;
-    if b.is_solved_full() {
+    let (board, queue, stats) = set_guess(board, guess, &mut *list, stats, task)?;
+    ask(board, stats, task.limits, depth)?;
+    let (board, notes, stats) = probe_guess(board, queue, &mut *list, stats, task)?;
+    ask(board, stats, task.limits, depth)?;
+    if board.is_solved_full() {
         return Break(Ended {
             dead: false,
-            board: b,
-            stats: e,
+            board,
+            stats,
         });
     }
-    Continue((b, choose_directions(b, notes), e))
+    Continue((board, choose_directions(board, notes), stats))
 }

@@ -38,33 +38,33 @@ pub fn probe_node(
     requires { Ready board task.machines.now list.old task.limits stats × (stats.steps ≤ 2 ^ 40) }
     ensures { ProbesNode board task.entry.machines.now list.old task.entry.limits stats result list.new }
 {
-    let p = run_unsolved(board, task.machines);
-    let s = stats.stepped(p.steps);
-    let Some((b, _)) = p.end else {
+    let probed = run_unsolved(board, task.machines);
+    let stats = stats.stepped(probed.steps);
+    let Some((end, _)) = probed.end else {
         return Break(Ended {
             dead: true,
             board,
-            stats: s,
+            stats,
         });
     };
-    if !b.is_solved_full() {
-        return Continue((b, s));
+    if !end.is_solved_full() {
+        return Continue((end, stats));
     }
-    let kept = check_and_store(b, list, s, task);
+    let kept = check_and_store(end, list, stats, task);
     Break(Ended {
         dead: kept.is_none(),
-        board: b,
-        stats: kept.unwrap_or(s),
+        board: end,
+        stats: kept.unwrap_or(stats),
     })
 }
 
 // Whether a guess is of a cell of the board, and of a colour that the cell has.
-fn is_open(b: Board, guess: Guess) -> bool
-    requires { Sized b }
-    ensures { (result ≡ has (at (board_of b) guess.cell.0) guess.colour.0) × (result ≡ true → (guess.cell.0 < b.w * b.h) × (guess.colour.0 < 8)) }
+fn is_open(board: Board, guess: Guess) -> bool
+    requires { Sized board }
+    ensures { (result ≡ has (at (board_of board) guess.cell.0) guess.colour.0) × (result ≡ true → (guess.cell.0 < board.w * board.h) × (guess.colour.0 < 8)) }
 {
-    let set = b.cell(guess.cell);
-    if b.w * b.h <= usize::from(guess.cell.0) || 8 <= guess.colour.0 {
+    let set = board.cell(guess.cell);
+    if board.w * board.h <= usize::from(guess.cell.0) || 8 <= guess.colour.0 {
         return false;
     }
     cells::has(set, guess.colour)
@@ -72,30 +72,30 @@ fn is_open(b: Board, guess: Guess) -> bool
 
 // Limits are asked. A guess whose colour is gone is skipped. A cell with one colour left is never guessed: skipped if this node itself has already run probing, otherwise the node is probed. The node goes on with the guess that is to be tried, if there is one.
 pub fn before_guess(
-    t: Node,
+    node: Node,
     list: &mut [u8],
     task: Task,
     depth: usize,
 ) -> ControlFlow<Ended, (Node, Option<Guess>)>
-    requires { Ready t.board task.machines.now list.old task.limits t.stats × (t.guesses.head < most_waiting) }
-    ensures { Begins t task.entry.machines.now list.old task.entry.limits depth result list.new }
+    requires { Ready node.board task.machines.now list.old task.limits node.stats × (node.guesses.head < most_waiting) }
+    ensures { Begins node task.entry.machines.now list.old task.entry.limits depth result list.new }
 {
-    ask(t.board, t.stats, task.limits, depth)?;
-    let guess = t.guesses.first();
+    ask(node.board, node.stats, task.limits, depth)?;
+    let guess = node.guesses.first();
     let rest = Node {
-        guesses: t.guesses.rest(),
-        ..t
+        guesses: node.guesses.rest(),
+        ..node
     };
-    if !is_open(t.board, guess) {
+    if !is_open(node.board, guess) {
         return Continue((rest, None));
     }
-    if !cells::is_solved(t.board.cell(guess.cell)) {
+    if !cells::is_solved(node.board.cell(guess.cell)) {
         return Continue((rest, Some(guess)));
     }
-    if t.probed {
+    if node.probed {
         return Continue((rest, None));
     }
-    let (board, stats) = probe_node(t.board, list, t.stats, task)?;
+    let (board, stats) = probe_node(node.board, list, node.stats, task)?;
     let probed = Node {
         board,
         probed: true,
@@ -107,56 +107,56 @@ pub fn before_guess(
 
 // After a dead guess its colour is removed (the last one: node dead), the node is probed, and the cell's other colours come to wait. Another guess is noted as made.
 pub fn after_guess(
-    t: Node,
+    node: Node,
     guess: Guess,
     dead: bool,
     list: &mut [u8],
     task: Task,
 ) -> ControlFlow<Ended, Node>
-    requires { Ready t.board task.machines.now list.old task.limits t.stats × (t.guesses.head ≤ most_waiting) × (guess.cell.0 < t.board.w * t.board.h) × (guess.colour.0 < 8) × (t.stats.steps ≤ 2 ^ 40) }
-    ensures { Ends t guess.cell.0 guess.colour.0 dead task.entry.machines.now list.old task.entry.limits result list.new }
+    requires { Ready node.board task.machines.now list.old task.limits node.stats × (node.guesses.head ≤ most_waiting) × (guess.cell.0 < node.board.w * node.board.h) × (guess.colour.0 < 8) × (node.stats.steps ≤ 2 ^ 40) }
+    ensures { Ends node guess.cell.0 guess.colour.0 dead task.entry.machines.now list.old task.entry.limits result list.new }
 {
     if !dead {
         return Continue(Node {
-            made: guesses::mark(t.made, guess.cell, guess.colour),
-            ..t
+            made: guesses::mark(node.made, guess.cell, guess.colour),
+            ..node
         });
     }
-    let a = t.board.remove(guess.cell, guess.colour);
+    let a = node.board.remove(guess.cell, guess.colour);
     if a.cell(guess.cell) == 0 {
         return Break(Ended {
             dead: true,
             board: a,
-            stats: t.stats,
+            stats: node.stats,
         });
     }
-    let (board, stats) = probe_node(a, list, t.stats, task)?;
+    let (board, stats) = probe_node(a, list, node.stats, task)?;
     Continue(Node {
         board,
-        guesses: t
+        guesses: node
             .guesses
             .others(guess.cell, guess.colour, board.cell(guess.cell)),
         probed: true,
         stats,
-        ..t
+        ..node
     })
 }
 
 // M3: when guesses run out limits are asked; if the board is unsolved and no cell is closed, the first unsolved cell gives new guesses. Otherwise the node ends, not dead.
-pub fn refill(t: Node, l: Limits, depth: usize) -> ControlFlow<Ended, Node>
-    requires { Sized t.board × (t.stats.grids ≤ l.grids) × (t.guesses.head ≤ most_waiting) }
-    ensures { (machines : List Machine) (list : List ℕ) → Refills t machines list l depth result }
+pub fn refill(node: Node, limits: Limits, depth: usize) -> ControlFlow<Ended, Node>
+    requires { Sized node.board × (node.stats.grids ≤ limits.grids) × (node.guesses.head ≤ most_waiting) }
+    ensures { (machines : List Machine) (list : List ℕ) → Refills node machines list limits depth result }
 {
-    ask(t.board, t.stats, l, depth)?;
-    if t.board.is_solved_full() || guesses::any_closed(t.board, t.made) {
+    ask(node.board, node.stats, limits, depth)?;
+    if node.board.is_solved_full() || guesses::any_closed(node.board, node.made) {
         return Break(Ended {
             dead: false,
-            board: t.board,
-            stats: t.stats,
+            board: node.board,
+            stats: node.stats,
         });
     }
     Continue(Node {
-        guesses: guesses::first_unsolved(t.board),
-        ..t
+        guesses: guesses::first_unsolved(node.board),
+        ..node
     })
 }

@@ -79,16 +79,16 @@ fn turn(node: Node, list: &mut [u8], task: Task, left: usize) -> ControlFlow<End
     ensures { Turns node task.entry.machines.now list.old task.entry.limits left result list.new }
 {
     let depth = task.limits.depth + 1 - left;
-    let (t, next) = before_guess(node, &mut *list, task, depth)?;
+    let (node, next) = before_guess(node, &mut *list, task, depth)?;
     let Some(guess) = next else {
-        return Continue(t);
+        return Continue(node);
     };
-    let saved = t.board;
-    let r = try_direction(saved, guess, &mut *list, t.stats, task, left - 1);
+    let saved = node.board;
+    let r = try_direction(saved, guess, &mut *list, node.stats, task, left - 1);
     let back = Node {
         board: r.board.restore(saved),
         stats: r.stats,
-        ..t
+        ..node
     };
     after_guess(back, guess, r.dead, list, task)
 }
@@ -108,7 +108,7 @@ pub fn try_direction(
 {
     let depth = task.limits.depth + 1 - left;
     match enter_guess(board, guess, &mut *list, stats, task, depth) {
-        Continue((b, waiting, s)) => search(b, waiting, list, s, task, left),
+        Continue((board, waiting, stats)) => search(board, waiting, list, stats, task, left),
         Break(end) => end,
     }
 }

@@ -6,20 +6,20 @@ use Rattle.backtracking.proofs.guess.set_guess.Goals as goal
 
 pub returns-in_default : goal.returns-in_default
 returns-in_default c =
-    sets_dead _ _ _ _ _ _ _ _ _ c.unsolved_cells-q.result c.requires.1 c.requires.0.few c.requires.0.table c.unsolved_cells-q.ensures c.stepped-s.ensures c.set-a.ensures c.in_default.ensures
+    sets_dead _ _ _ _ _ _ _ _ _ c.unsolved_cells-queue.result c.requires.1 c.requires.0.few c.requires.0.table c.unsolved_cells-queue.ensures c.stepped-stats.ensures c.set-start.ensures c.in_default.ensures
 
 pub returns-in_default-keep : goal.returns-in_default-keep
 returns-in_default-keep c =
-    sets_failed _ _ _ _ _ _ _ _ _ c.unsolved_cells-q.result c.requires.1 c.requires.0.few c.requires.0.table c.unsolved_cells-q.ensures c.stepped-s.ensures c.set-a.ensures
+    sets_failed _ _ _ _ _ _ _ _ _ c.unsolved_cells-queue.result c.requires.1 c.requires.0.few c.requires.0.table c.unsolved_cells-queue.ensures c.stepped-stats.ensures c.set-start.ensures
     c.in-Some.ensures c.in_default-keep.ensures
 
 pub push_both-requires : goal.push_both-requires
 push_both-requires c =
-    let size = size_with _ c.set-a.ensures in
+    let size = size_with _ c.set-start.ensures in
     let y = c.requires in
-    (sized_on size y.0.sized, c.in-Some.ensures.size, size_at (λ a b. c.args.guess.cell.0 < a * b) size y.1, (c.unsolved_cells-q.ensures _ (table_size _ y.0.table.table)).within)
+    (sized_on size y.0.sized, c.in-Some.ensures.size, size_at (λ a b. c.args.guess.cell.0 < a * b) size y.1, (c.unsolved_cells-queue.ensures _ (table_size _ y.0.table.table)).within)
 
 pub returns : goal.returns
 returns c =
-    sets_on _ _ _ _ _ _ _ _ _ c.unsolved_cells-q.result c.requires.1 c.requires.0.few c.requires.0.table c.unsolved_cells-q.ensures c.stepped-s.ensures c.set-a.ensures
+    sets_on _ _ _ _ _ _ _ _ _ c.unsolved_cells-queue.result c.requires.1 c.requires.0.few c.requires.0.table c.unsolved_cells-queue.ensures c.stepped-stats.ensures c.set-start.ensures
     c.in-Some.ensures c.in-Some-keep.ensures c.push_both.ensures

@@ -86,16 +86,16 @@ try_direction-returns-in-Break t c = try_over c.args.left c.in-Break.ensures
 
 -- ## A turn
 
-pub turn-returns-in_err-t : goal.turn-returns-in_err-t
-turn-returns-in_err-t t c = rw c.from_residual.ensures (turn_over c.args.left c.requires.1 c.in_err-t.ensures)
+pub turn-returns-in_err-node : goal.turn-returns-in_err-node
+turn-returns-in_err-node t c = rw c.from_residual.ensures (turn_over c.args.left c.requires.1 c.in_err-node.ensures)
 
 pub turn-returns-in_default : goal.turn-returns-in_default
-turn-returns-in_default t c = turn_skipped c.args.left c.requires.1 (rw c.in_default.is at c.in_ok-t.ensures)
+turn-returns-in_default t c = turn_skipped c.args.left c.requires.1 (rw c.in_default.is at c.in_ok-node.ensures)
 
 pub turn-try_direction-r-requires : goal.turn-try_direction-r-requires
 turn-try_direction-r-requires t c =
     let y = c.requires in
-    let w = rw c.in-Some.is at c.in_ok-t.ensures in
+    let w = rw c.in-Some.is at c.in_ok-node.ensures in
     let i = w.within.0 in
     let k = w.within.1 in (
       omega (arith, c.decreases, y.2),
@@ -113,7 +113,7 @@ turn-try_direction-r-requires t c =
 pub turn-after_guess-requires : goal.turn-after_guess-requires
 turn-after_guess-requires t c =
     let y = c.requires in
-    let w = rw c.in-Some.is at c.in_ok-t.ensures in
+    let w = rw c.in-Some.is at c.in_ok-node.ensures in
     let v = c.try_direction-r.ensures in
     let size = back_size c.args.left y.1 w y.2 y.3 v c.restore.ensures in (
       ready_on y.0 size (c.try_direction-r.auto.list ∙ c.before_guess.auto.list) v.within.few,
@@ -126,4 +126,4 @@ turn-after_guess-requires t c =
 pub turn-returns : goal.turn-returns
 turn-returns t c =
     let y = c.requires in
-    turn_tried c.args.left y.1 (rw c.in-Some.is at c.in_ok-t.ensures) y.2 y.3 c.try_direction-r.ensures c.restore.ensures c.after_guess.ensures
+    turn_tried c.args.left y.1 (rw c.in-Some.is at c.in_ok-node.ensures) y.2 y.3 c.try_direction-r.ensures c.restore.ensures c.after_guess.ensures

@@ -7,4 +7,4 @@ use Rattle.backtracking.proofs.store.check_and_store.Goals as goal
 pub returns : goal.returns
 returns c =
     let a = c.args in
-    stores_met a.b _ _ a.task.limits a.s _ _ c.requires.sized (board_cells a.b _ c.well_formed.0) (λ z i. sym c.if-not-check.false ∙ c.check.ensures.is z i) c.add_solution.ensures
+    stores_met a.board _ _ a.task.limits a.stats _ _ c.requires.sized (board_cells a.board _ c.well_formed.0) (λ z i. sym c.if-not-check.false ∙ c.check.ensures.is z i) c.add_solution.ensures
