@@ -35,8 +35,8 @@ impl Queue {
         Queue { n, waits, priority }
     }
 
-    // A cell comes to wait with a priority, in place.
-    fn wait(&mut self, c: CellNo, p: f64)
+    // A cell comes to wait with a priority, in place; one already there gets the new priority. A cell past the last is not held.
+    pub fn wait(&mut self, c: CellNo, p: f64)
         requires { self.old.n ≤ 256 }
         ensures { Holds self.old.n (Queues.push c.0 p (queue_of self.old)) self.new }
     {
@@ -47,7 +47,7 @@ impl Queue {
         }
     }
 
-    // A cell waits with a priority; one already there gets the new priority. A cell past the last is not held.
+    // A cell waits with a priority, as if it came to wait in place.
     pub fn push(mut self, c: CellNo, p: f64) -> Queue
         requires { self.n ≤ 256 }
         ensures { Holds self.n (Queues.push c.0 p (queue_of self)) result }
