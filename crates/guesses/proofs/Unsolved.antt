@@ -16,7 +16,7 @@ use Rattle.rules.proofs.Lists.{keep_more, first_least}
 use Rattle.rules.proofs.Sets.{colours_few}
 use Rattle.guesses.specs.declared.waiting.Guesses.{Guesses}
 use Rattle.guesses.specs.Waiting.{guesses_of, Waiting, IfRoom}
-use Rattle.guesses.proofs.Room.{waiting_room, room_waiting, room_more}
+use Rattle.guesses.proofs.Room.{room_waiting, room_more}
 
 -- ## The colours of a set, the last one first
 
@@ -24,9 +24,6 @@ module _ (c : Cell) (s : ℕ) where
   -- those from y on, as guesses
   abbrev pub colours_from : ℕ → List Guess
   colours_from y = map (guess c) (keep (has s) (from y (8 - y)))
-
-  pub listed_start : (g : Guesses) → Waiting [] g → IfRoom (colours_from 8) g
-  listed_start g w = waiting_room w
 
   -- one colour more: the set has it, or not
   module _ (g : Guesses) (y : ℕ) (h : 0 < y) (k : y ≤ 8) (room : IfRoom (colours_from y) g) where
