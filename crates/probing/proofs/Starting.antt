@@ -27,7 +27,6 @@ use Rattle.boards.proofs.Places.{line_row, line_column, length_places}
 use Rattle.boards.proofs.Crossing.{place, line_cells_lem, cell_row, reaches}
 use Rattle.queues.specs.declared.Queue.{Queue}
 use Rattle.queues.specs.Entries.{queue_of, Holds}
-use Rattle.queues.proofs.Entries.{Long, pushed, pushed_holds, pushed_long}
 use Rattle.probing.specs.Neighbours.{OfSize}
 use Rattle.probing.specs.Start.{SolvedOn, PriorityIs}
 use Rattle.probing.proofs.Frames.{at_cell}
@@ -83,40 +82,32 @@ module _ (b : Board) (s : Sized b) (c : Cell) (h : c < b.w * b.h) (solved : List
 
 -- the unsolved cells before i wait
 pub record Starting (b : Board) (q : Queue) (i : ℕ) : Type 0 where
-  pub upto : i ≤ b.w * b.h
-  pub long : Long q
   pub size : q.n ≡ b.w * b.h
   pub within : q.n ≤ 256
   pub queue : (z : Puzzle) → OfSize z b → queue_of q ≡ filled (starts_with z (board_of b)) (b.w * b.h) i
 
-module _ (b : Board) where
-  pub starting_start : (q : Queue) → Long q → Holds (b.w * b.h) (replicate (b.w * b.h) none) q → Starting b q 0
-  starting_start q l u =
-      record { upto = omega arith; long = l; size = u.size; within = u.within; queue = λ z o. u.queue ∙ sym (filled_none (starts_with z (board_of b)) (b.w * b.h)) }
+module _ (b : Board) (q : Queue) where
+  pub starting_start : Holds (b.w * b.h) (replicate (b.w * b.h) none) q → Starting b q 0
+  starting_start u = record { size = u.size; within = u.within; queue = λ z o. u.queue ∙ sym (filled_none (starts_with z (board_of b)) (b.w * b.h)) }
 
-  module _ (q : Queue) (i : ℕ) (t : Starting b q i) where
+  module _ (i : ℕ) (t : Starting b q i) where
     -- a solved cell is passed
-    pub starting_pass : i < b.w * b.h → single (at (board_of b) i) ≡ true → Starting b q (i + 1)
-    starting_pass h e = record {
-      upto = omega arith;
-      long = t.long;
+    pub starting_pass : single (at (board_of b) i) ≡ true → Starting b q (i + 1)
+    starting_pass e = record {
       size = t.size;
       within = t.within;
       queue = λ z o. t.queue z o ∙ sym (filled_pass (starts_with z (board_of b)) (b.w * b.h) i (rw (e, starts_with)));
     }
 
-    pub starting_push : (p : Float) (solved : List ℕ) → Sized b → i < b.w * b.h → SolvedOn b (b.h + b.w) solved → single (at (board_of b) i) ≡ false →
-        PriorityIs b i (get_or solved (i / b.w) 0) (get_or solved (b.h + i % b.w) 0) p → Starting b (pushed q i p) (i + 1)
-    starting_push p solved s h on e f =
-        let u = pushed_holds q i p t.long t.within in
-        record {
-          upto = omega arith;
-          long = pushed_long q i p t.long;
-          size = t.size;
-          within = t.within;
-          queue = λ z o. u.queue ∙ ap₂ (push i) (f z o ∙ priority_is b s i h solved on z o) (t.queue z o)
-              ∙ sym (filled_push (starts_with z (board_of b)) (b.w * b.h) i (priority z (board_of b) i) (rw (e, starts_with)));
-        }
+    -- an unsolved cell comes to wait
+    pub starting_wait : {p : Float} {r : Queue} (solved : List ℕ) → Sized b → i < b.w * b.h → SolvedOn b (b.h + b.w) solved → single (at (board_of b) i) ≡ false →
+        PriorityIs b i (get_or solved (i / b.w) 0) (get_or solved (b.h + i % b.w) 0) p → Holds q.n (push i p (queue_of q)) r → Starting b r (i + 1)
+    starting_wait solved s h on e f u = record {
+      size = u.size ∙ t.size;
+      within = u.within;
+      queue = λ z o. u.queue ∙ ap₂ (push i) (f z o ∙ priority_is b s i h solved on z o) (t.queue z o)
+          ∙ sym (filled_push (starts_with z (board_of b)) (b.w * b.h) i (priority z (board_of b) i) (rw (e, starts_with)));
+    }
 
     pub starting_end : b.w * b.h ≤ i → length (board_of b) ≡ b.w * b.h → (z : Puzzle) → OfSize z b → Holds (b.w * b.h) (start_queue z (board_of b)) q
     unfolding start_queue

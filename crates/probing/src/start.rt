@@ -52,7 +52,7 @@ fn priority_at(b: &Board, c: CellNo, row_solved: u8, column_solved: u8) -> f64
     )
 }
 
-// All unsolved cells, each with its priority; they are put down in place, so that the queue is not copied for each.
+// All unsolved cells, each with its priority; they come to wait in place, so that the queue is not copied for each.
 pub fn unsolved_cells(b: Board) -> Queue
     requires { Sized b }
     ensures { (z : Puzzle) → OfSize z b → Holds (b.w * b.h) (start_queue z (board_of b)) result }
@@ -61,13 +61,9 @@ pub fn unsolved_cells(b: Board) -> Queue
     let mut q = Queue::empty(b.w * b.h);
     for i in 0..b.w * b.h {
         if !cells::is_solved(b.cells[i]) {
-            q.waits[i] = 1;
-            q.priority[i] = priority_at(
-                &b,
-                CellNo(i as u16),
-                solved[i / b.w],
-                solved[b.h + i % b.w],
-            );
+            let c = CellNo(i as u16);
+            let priority = priority_at(&b, c, solved[i / b.w], solved[b.h + i % b.w]);
+            q.wait(c, priority);
         }
     }
     q
