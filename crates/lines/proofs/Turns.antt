@@ -1,5 +1,7 @@
 -- One turn of each loop of reducing by a machine, over plain values: the loops over the masks of the colours, and the two over the cells.
-use Rattle.std.proofs.Common.{◌≡◌, ap, ap₂, sym, ◌∙◌, subst, List, [], ◌∷◌, ◌++◌, append_assoc, append-nil, ℕ, suc, ◌+◌, ◌-◌, ◌*◌, ◌/◌, ◌%◌, ◌^◌, ◌≤◌, ◌<◌, pow-suc, add-one, arith, length, get_or, set, take, drop, drop_of_length-le, drop-cons, drop-drop, drop-set-lt, get_or-drop, get_or-set_same, get_or-set_other, take_all, take-suc-set, bit_and, bit_or, shr-shr}
+use Rattle.std.proofs.Common.{◌≡◌, refl, ap, ap₂, sym, ◌∙◌, subst, List, [], ◌∷◌, ◌++◌, append_assoc, append-nil, ℕ, suc, ◌+◌, ◌-◌, ◌*◌, ◌/◌, ◌%◌, ◌^◌, ◌≤◌, ◌<◌, pow-suc, add-one, arith, length, get_or, set, take, drop, drop_of_length-le, drop-cons, drop-drop, drop-set-lt, get_or-drop, get_or-set_same, get_or-set_other, take_all, take-suc-set, bit_and, bit_or}
+use Rattle.std.proofs.Math.Nat.{lt-mul-div-succ, add-mul-mod_self_left, mod-eq_of_lt}
+use Rattle.std.proofs.lemmas.Nat.{and_mod}
 use lib.Bits.{or_zero_r, or_lt, or_shifted_r, and_le_r}
 use lib.Seq.{drop-length}
 use Rattle.rules.proofs.Tests.{by_equal}
@@ -9,21 +11,25 @@ use Rattle.lines.proofs.Masks.{or_assoc, sign_le}
 
 -- ## The masks of the colours
 
+goes_none : (masks : List ℕ) → goes masks 0 ≡ 0
+unfolding goes
+goes_none [] = refl
+goes_none (p ∷ masks) = ap (bit_or 0) (goes_none masks) ∙ or_zero_r 0
+
 module _ (masks : List ℕ) (c : ℕ) where
-  -- a set without its first c colours, and one without one more
-  shifted : (s : ℕ) → s / 2 ^ c / 2 ≡ s / 2 ^ (c + 1)
-  shifted s = shr-shr s c 1
-
-  pub goes_again : (s states all : ℕ) → c < length masks → bit_or states (goes (drop c masks) (s / 2 ^ c)) ≡ all →
-      bit_or (bit_or states (pick (s / 2 ^ c % 2) (get_or masks c 0))) (goes (drop (c + 1) masks) (s / 2 ^ (c + 1))) ≡ all
+  pub goes_again : (rest states all : ℕ) → c < length masks → bit_or states (goes (drop c masks) rest) ≡ all →
+      bit_or (bit_or states (pick (rest % 2) (get_or masks c 0))) (goes (drop (c + 1) masks) (rest / 2)) ≡ all
   unfolding goes
-  goes_again s states all h e =
-      or_assoc states (pick (s / 2 ^ c % 2) (get_or masks c 0)) (goes (drop (c + 1) masks) (s / 2 ^ (c + 1)))
-      ∙ sym (rw (add-one, drop-cons masks c 0 h, goes, shifted s, add-one)) ∙ e
+  goes_again rest states all h e =
+      or_assoc states (pick (rest % 2) (get_or masks c 0)) (goes (drop (c + 1) masks) (rest / 2)) ∙ sym (rw (add-one, drop-cons masks c 0 h, goes)) ∙ e
 
-  pub goes_over : (s states all : ℕ) → length masks ≤ c → bit_or states (goes (drop c masks) (s / 2 ^ c)) ≡ all → states ≡ all
+  pub goes_over : (rest states all : ℕ) → length masks ≤ c → bit_or states (goes (drop c masks) rest) ≡ all → states ≡ all
   unfolding goes
-  goes_over s states all h e = sym (or_zero_r states) ∙ sym (rw (drop_of_length-le masks {i = c} h)) ∙ e
+  goes_over rest states all h e = sym (or_zero_r states) ∙ sym (rw (drop_of_length-le masks {i = c} h)) ∙ e
+
+  -- no colour is left
+  pub goes_left : (rest states all : ℕ) → rest ≡ 0 → bit_or states (goes (drop c masks) rest) ≡ all → states ≡ all
+  goes_left rest states all h e = sym (ap (bit_or states) (ap (goes (drop c masks)) h ∙ goes_none (drop c masks)) ∙ or_zero_r states) ∙ e
 
   pub able_again : (states colours all : ℕ) → c < length masks → colours < 2 ^ c → colours + 2 ^ c * able (drop c masks) states ≡ all →
       let more = bit_or colours (sign (bit_and (get_or masks c 0) states) * 2 ^ c) in (more < 2 ^ (c + 1)) × (more + 2 ^ (c + 1) * able (drop (c + 1) masks) states ≡ all)
@@ -40,6 +46,15 @@ module _ (masks : List ℕ) (c : ℕ) where
   pub able_over : (states colours all : ℕ) → length masks ≤ c → colours + 2 ^ c * able (drop c masks) states ≡ all → colours ≡ all
   unfolding able
   able_over states colours all h e = omega (arith, e, ap (λ l. 2 ^ c * able l states) (drop_of_length-le masks {i = c} h))
+
+  -- a set with no colour from c on
+  pub able_left : (s states colours all : ℕ) → s / 2 ^ c ≡ 0 → colours < 2 ^ c → colours + 2 ^ c * able (drop c masks) states ≡ all → bit_and colours s ≡ bit_and all s
+  able_left s states colours all h l e =
+      let more = able (drop c masks) states in
+      let p : 0 < 2 ^ c = omega (arith, l) in
+      let b : s < 2 ^ c = omega (arith, lt-mul-div-succ s p, ap (λ n. 2 ^ c * (n + 1)) h) in
+      let m : all % 2 ^ c ≡ colours = ap (λ n. n % 2 ^ c) (sym e) ∙ add-mul-mod_self_left colours (2 ^ c) more ∙ mod-eq_of_lt l in
+      ap₂ bit_and (sym m) (sym (mod-eq_of_lt b)) ∙ sym (and_mod all s c) ∙ mod-eq_of_lt (omega (arith, and_le_r all s, b))
 
 -- ## Backwards over the cells
 

@@ -34,23 +34,31 @@ fn sign(x: u32) -> u8
     u8::from(x != 0)
 }
 
-// The states that a colour of the set `s` goes on from. All masks in turn, and no test of how many colours are left, which the processor could not foresee.
+// The states that a colour of the set `s` goes on from. It stops after the highest colour of the set, since most sets have one or two colours: all masks in turn take more instructions.
 fn goes(m: Machine, s: u8) -> u32
     ensures { result ≡ goes m.by s }
 {
     let mut states = 0;
-    for (c, p) in m.by.iter().enumerate() {
-        states |= pick(s >> c, *p);
+    let mut rest = s;
+    for p in m.by {
+        if rest == 0 {
+            break;
+        }
+        states |= pick(rest, p);
+        rest /= 2;
     }
     states
 }
 
-// The set of the colours of `s` that go on from one of these states.
+// The set of the colours of `s` that go on from one of these states. It stops after the highest colour, as `goes` does.
 fn moves(m: Machine, s: u8, states: u32) -> u8
     ensures { result ≡ moves m.by s states }
 {
     let mut able = 0;
     for (c, p) in m.by.iter().enumerate() {
+        if s >> c == 0 {
+            break;
+        }
         able |= sign(p & states) << c;
     }
     able & s
