@@ -19,7 +19,6 @@ use queues::Queue;
 
 // The cells that wait in a queue, taken out one after the other.
 fn in_order(mut q: Queue) -> ArrayVec<CellNo, 256>
-    requires { q.n ≤ 256 }
     ensures { cell_numbers result.items ≡ in_order higher (queue_of q) }
 {
     let mut order = ArrayVec::new();
@@ -39,7 +38,7 @@ fn ranked(b: Board, notes: &Notes) -> ArrayVec<CellNo, 256>
 
 // A cell's colours, the one that solves most first, come to wait before the guesses that wait, where there is room.
 fn wait_cell(g: &mut Guesses, notes: &Notes, c: CellNo)
-    requires { (g.old.head ≤ most_waiting) × (notes.now.n ≤ 256) }
+    requires { g.old.head ≤ most_waiting }
     ensures { IfRoom (map (guess c.0) (colour_order (notes_of notes.now) c.0) ++ guesses_of g.old) g.new }
 {
     let order = notes::colour_order(notes, c);

@@ -1,12 +1,13 @@
 -- How the array of the notes follows the rules: what a note does to it, and what is read of a cell.
-use mathlib.Core.Path.{◌≡◌, refl, sym, ap}
-use mathlib.Core.List.{List}
+use mathlib.Core.Path.{◌≡◌, refl, sym, ap, ap₂, ◌∙◌}
+use mathlib.Core.List.{List, map}
 use mathlib.Core.Option as Math
 use Prim.Native.Nat.{ℕ, ◌≤◌, ◌<◌}
 use native.Mathlib.Omega.{arith}
 use lib.ListN.{length, get_or, get_or-replicate, set, replicate, get_or-eq_default}
 use lib.Seq.{get_or-set_same, get_or-set_other, set_out}
-use Rattle.std.specs.Prelude.{None, Some}
+use Rattle.std.specs.Prelude.{Option, None, Some}
+use Rattle.rules.specs.Lists.{from}
 use Rattle.rules.specs.Sets.{Colour}
 use Rattle.rules.specs.Guesses.{notes_at}
 use Rattle.rules.proofs.Given.{length_given, given_at, given_alike, given_set}
@@ -28,24 +29,29 @@ note_past ns c h = sym (get_or-eq_default (notes_of ns) Math.none (omega (arith,
 
 -- ## Noting
 
-pub none_noted : (n : ℕ) → n ≤ 256 → Says n (replicate n Math.none) (record { n = n; notes = replicate 256 None })
+pub none_noted : (n : ℕ) {h : n ≤ 256} → Says n (replicate n Math.none) (record { n = n; notes = replicate 256 None; within = h })
 unfolding notes_of
-none_noted n h = record {
+none_noted n {h} = record {
   size = refl;
-  within = h;
-  notes = given_alike (λ c. noted (get_or (replicate 256 None) c None)) Math.none 0 n (λ c l. ap noted (get_or-replicate 256 c None None (omega arith)));
+  notes = given_alike (λ c. noted (get_or (replicate 256 None) c None)) Math.none 0 n (λ c l. ap noted (get_or-replicate 256 c None None (omega (arith, h))));
 }
 
-pub past_noted : (ns : Notes) (c : ℕ) (o : Math.Option (List (Colour × ℕ))) → ns.n ≤ 256 → ns.n ≤ c → Says ns.n (set (notes_of ns) c o) ns
-past_noted ns c o h k = record { size = refl; within = h; notes = sym (set_out (notes_of ns) c o (omega (arith, notes_length ns))) }
-
-pub cell_noted : (ns : Notes) (c : ℕ) (t : Note) → length ns.notes ≡ 256 → ns.n ≤ 256 →
-    Says ns.n (set (notes_of ns) c (Math.some (note_of t))) (record { n = ns.n; notes = set ns.notes c (Some t) })
+-- what notes stand for is read of their size and their array alone
+notes_by : (r : Notes) {n : ℕ} {l : List (Option Note)} → r.n ≡ n → r.notes ≡ l → notes_of r ≡ map (λ c. noted (get_or l c None)) (from 0 n)
 unfolding notes_of
-cell_noted ns c t l h = record {
-  size = refl;
-  within = h;
-  notes = given_set (note_at ns) (λ b. noted (get_or (set ns.notes c (Some t)) b None)) ns.n c (Math.some (note_of t))
-      (λ m. ap noted (get_or-set_same ns.notes c (Some t) None (omega arith)))
-      (λ b m e. ap noted (get_or-set_other ns.notes c b (Some t) None e));
-}
+notes_by r e f = ap₂ (λ n l. map (λ c. noted (get_or l c None)) (from 0 n)) e f
+
+-- notes r after a cell was noted, or was past the last
+module _ (ns r : Notes) (c : ℕ) (size : r.n ≡ ns.n) where
+  pub past_noted : (o : Math.Option (List (Colour × ℕ))) → r.notes ≡ ns.notes → ns.n ≤ c → Says ns.n (set (notes_of ns) c o) r
+  unfolding notes_of
+  past_noted o e h = record { size = size; notes = notes_by r size e ∙ sym (set_out (notes_of ns) c o (omega (arith, notes_length ns, h))) }
+
+  pub cell_noted : (t : Note) → r.notes ≡ set ns.notes c (Some t) → length ns.notes ≡ 256 → Says ns.n (set (notes_of ns) c (Math.some (note_of t))) r
+  unfolding notes_of
+  cell_noted t e l = record {
+    size = size;
+    notes = notes_by r size e ∙ given_set (note_at ns) (λ b. noted (get_or (set ns.notes c (Some t)) b None)) ns.n c (Math.some (note_of t))
+        (λ m. ap noted (get_or-set_same ns.notes c (Some t) None (omega (arith, l, ns.within))))
+        (λ b m e. ap noted (get_or-set_other ns.notes c b (Some t) None e));
+  }

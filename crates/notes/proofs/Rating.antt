@@ -73,15 +73,15 @@ module _ (b : List ℕ) (ns : Notes) where
   Rated q i = Holds ns.n (filled rates ns.n i) q
 
   pub rated_start : (q : Queue) → Holds ns.n (replicate ns.n Math.none) q → Rated q 0
-  rated_start q h = record { size = h.size; within = h.within; queue = h.queue ∙ sym (filled_none rates ns.n) }
+  rated_start q h = record { size = h.size; queue = h.queue ∙ sym (filled_none rates ns.n) }
 
   module _ (q : Queue) (i : ℕ) (t : Rated q i) where
     -- one more cell: it does not wait, or it is pushed with its rate
     pub rated_pass : Math.none ≡ rates i → Rated q (i + 1)
-    rated_pass e = record { size = t.size; within = t.within; queue = t.queue ∙ sym (filled_pass rates ns.n i (sym e)) }
+    rated_pass e = record { size = t.size; queue = t.queue ∙ sym (filled_pass rates ns.n i (sym e)) }
 
     pub rated_push : (p : Float) (r : Queue) → Math.some p ≡ rates i → Holds q.n (push i p (queue_of q)) r → Rated r (i + 1)
-    rated_push p r e h = record { size = h.size ∙ t.size; within = h.within; queue = h.queue ∙ ap (push i p) t.queue ∙ sym (filled_push rates ns.n i p (sym e)) }
+    rated_push p r e h = record { size = h.size ∙ t.size; queue = h.queue ∙ ap (push i p) t.queue ∙ sym (filled_push rates ns.n i p (sym e)) }
 
     pub rated_end : ns.n ≤ i → length b ≡ ns.n → Holds ns.n (map rates (cells b)) q
-    rated_end h e = record { size = t.size; within = t.within; queue = t.queue ∙ filled_all rates ns.n i h ∙ ap (λ n. map rates (from 0 n)) (sym e) }
+    rated_end h e = record { size = t.size; queue = t.queue ∙ filled_all rates ns.n i h ∙ ap (λ n. map rates (from 0 n)) (sym e) }

@@ -1,5 +1,5 @@
 -- What the notes stand for: the rules' notes.
-use Rattle.std.specs.Prelude.{◌≡◌, List, map, ℕ, ◌≤◌, get_or, true, false, Option, None, Some}
+use Rattle.std.specs.Prelude.{◌≡◌, List, map, ℕ, get_or, true, false, Option, None, Some}
 use Rattle.std.proofs.Math.Option as Math
 use Rattle.rules.specs.Lists.{from}
 use Rattle.rules.specs.Sets.{Colour, has, colours}
@@ -36,5 +36,4 @@ notes_of ns = map (note_at ns) (from 0 ns.n)
 -- ns are the rules' notes e, for n cells
 pub record Says (n : ℕ) (e : Probing.Notes) (ns : Notes) : Type 0 where
   pub size : ns.n ≡ n
-  pub within : ns.n ≤ 256
   pub notes : notes_of ns ≡ e

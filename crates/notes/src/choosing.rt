@@ -1,5 +1,5 @@
 // Choosing guesses: cells go by rate, and within a cell the colour that solves most comes first.
-ghost use Rattle.std.specs.Prelude.{◌≡◌, map, ◌≤◌, length};
+ghost use Rattle.std.specs.Prelude.{◌≡◌, map, length};
 ghost use Rattle.rules.specs.Boards.{cells};
 ghost use Rattle.rules.specs.Floats.{rate};
 ghost use Rattle.rules.specs.Options.{opt_of};
@@ -34,7 +34,7 @@ fn rate_if(note: Option<Note>, s: u8) -> Option<f64>
 
 // The noted, unsolved cells of a board, each waiting with its rate.
 pub fn cell_order(notes: &Notes, board: &[u8]) -> Queue
-    requires { (notes.now.n ≤ 256) × (length board.now ≡ notes.now.n) }
+    requires { length board.now ≡ notes.now.n }
     ensures { Holds notes.now.n (map (rate_at board.now (notes_of notes.now)) (cells board.now)) result }
 {
     let mut q = Queue::empty(notes.n);
@@ -84,7 +84,6 @@ fn order_of(t: Note) -> ArrayVec<Colour, COLOURS>
 
 // The colours of a noted cell, the one that solves most first, ties ascending; of a cell that was not noted, none.
 pub fn colour_order(notes: &Notes, c: CellNo) -> ArrayVec<Colour, COLOURS>
-    requires { notes.now.n ≤ 256 }
     ensures { Ordered (colour_order (notes_of notes.now) c.0) result.items }
 {
     match notes.at(c) {

@@ -2,7 +2,6 @@
 ghost use Rattle.std.specs.Prelude.{◌≡◌, ◌≤◌, ◌<◌, set, replicate};
 ghost use Rattle.std.proofs.Math.Option.{none, some};
 ghost use Rattle.rules.specs.Guesses.{largest, smallest, notes_at};
-ghost use Rattle.notes.specs.Round.{each_of, note_of, solves, notes_of, noted, Says};
 
 use cells::{CellNo, Colour};
 use rules::COLOURS;
@@ -14,14 +13,17 @@ pub struct Note {
     pub counts: [u8; COLOURS],
 }
 
-// What was noted of each of n cells, if it was popped.
+// What was noted of each of n cells, at most 256, if it was popped.
 #[derive(Clone, Copy)]
 pub struct Notes {
     pub n: usize,
     pub notes: [Option<Note>; 256],
+    pub ghost within: { n ≤ 256 },
 }
 
 impl Note {
+    ghost use Rattle.notes.specs.Round.{note_of, solves};
+
     // How many cells a colour newly solves, if the cell has it.
     fn solves(&self, x: usize) -> Option<u8>
         requires { x < 8 }
@@ -52,6 +54,8 @@ impl Note {
 }
 
 impl Notes {
+    ghost use Rattle.notes.specs.Round.{each_of, notes_of, noted, Says};
+
     // A new round's notes: nothing is noted of the n cells.
     pub fn none(n: usize) -> Notes
         requires { n ≤ 256 }
@@ -63,7 +67,6 @@ impl Notes {
 
     // A cell is noted: its set, and how many cells each colour newly solves. A cell past the last is not noted.
     pub fn note(mut self, c: CellNo, s: u8, counts: [u8; COLOURS]) -> Notes
-        requires { self.n ≤ 256 }
         ensures { Says self.n (set (notes_of self) c.0 (some (each_of s counts))) result }
     {
         let i = c.0 as usize;
@@ -75,7 +78,6 @@ impl Notes {
 
     // What was noted of a cell, if it was popped.
     pub fn at(&self, c: CellNo) -> Option<Note>
-        requires { self.now.n ≤ 256 }
         ensures { noted result ≡ notes_at (notes_of self.now) c.0 }
     {
         let i = c.0 as usize;

@@ -73,7 +73,6 @@ pub pushes_from : {b a : Board} (q : Queue) {machines : List Machine} {f g : Puz
 pushes_from q r s e p = record {
   size = IfSome_then r p.size (λ a. same_trans s);
   room = p.room;
-  within = p.within;
   to = λ z t. subst (PushedTo r) (e z) (p.to z (table_same s t));
 }
 

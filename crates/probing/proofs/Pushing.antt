@@ -73,4 +73,4 @@ module _ (start end : Board) where
 pub pushed_both : (end : Board) (new : List Cell) (c : Cell) (queue : Queue) {q r : Queue} (z : Puzzle) → Holds queue.n (push_around z (board_of end) new (float 10) (queue_of queue)) q →
     Holds q.n (push_all (around z (board_of end) c) (float 20) (queue_of q)) r → Holds queue.n (push_both z (board_of end) c new (queue_of queue)) r
 unfolding push_around
-pushed_both end new c queue z u v = record { size = v.size ∙ u.size; within = v.within; queue = v.queue ∙ ap (push_all (around z (board_of end) c) (float 20)) u.queue }
+pushed_both end new c queue z u v = record { size = v.size ∙ u.size; queue = v.queue ∙ ap (push_all (around z (board_of end) c) (float 20)) u.queue }

@@ -83,19 +83,17 @@ module _ (b : Board) (s : Sized b) (c : Cell) (h : c < b.w * b.h) (solved : List
 -- the unsolved cells before i wait
 pub record Starting (b : Board) (q : Queue) (i : ℕ) : Type 0 where
   pub size : q.n ≡ b.w * b.h
-  pub within : q.n ≤ 256
   pub queue : (z : Puzzle) → OfSize z b → queue_of q ≡ filled (starts_with z (board_of b)) (b.w * b.h) i
 
 module _ (b : Board) (q : Queue) where
   pub starting_start : Holds (b.w * b.h) (replicate (b.w * b.h) none) q → Starting b q 0
-  starting_start u = record { size = u.size; within = u.within; queue = λ z o. u.queue ∙ sym (filled_none (starts_with z (board_of b)) (b.w * b.h)) }
+  starting_start u = record { size = u.size; queue = λ z o. u.queue ∙ sym (filled_none (starts_with z (board_of b)) (b.w * b.h)) }
 
   module _ (i : ℕ) (t : Starting b q i) where
     -- a solved cell is passed
     pub starting_pass : single (at (board_of b) i) ≡ true → Starting b q (i + 1)
     starting_pass e = record {
       size = t.size;
-      within = t.within;
       queue = λ z o. t.queue z o ∙ sym (filled_pass (starts_with z (board_of b)) (b.w * b.h) i (rw (e, starts_with)));
     }
 
@@ -104,7 +102,6 @@ module _ (b : Board) (q : Queue) where
         PriorityIs b i (get_or solved (i / b.w) 0) (get_or solved (b.h + i % b.w) 0) p → Holds q.n (push i p (queue_of q)) r → Starting b r (i + 1)
     starting_wait solved s h on e f u = record {
       size = u.size ∙ t.size;
-      within = u.within;
       queue = λ z o. u.queue ∙ ap₂ (push i) (f z o ∙ priority_is b s i h solved on z o) (t.queue z o)
           ∙ sym (filled_push (starts_with z (board_of b)) (b.w * b.h) i (priority z (board_of b) i) (rw (e, starts_with)));
     }
@@ -113,6 +110,5 @@ module _ (b : Board) (q : Queue) where
     unfolding start_queue
     starting_end h l z o = record {
       size = t.size;
-      within = t.within;
       queue = t.queue z o ∙ filled_all (starts_with z (board_of b)) (b.w * b.h) i h ∙ ap (λ n. map (starts_with z (board_of b)) (from 0 n)) (sym l);
     }

@@ -52,7 +52,6 @@ PushedTo (Some e) end = end ≡ some (board_of e.0, queue_of e.1)
 pub record Pushes (b : Board) (q : Queue) (machines : List Machine) (gives : Puzzle → Maybe (Boards.Board × CellQueue)) (r : Option (Board × Queue)) : Type 0 where
   pub size : IfSome r (λ e. SameSize b e.0)
   pub room : IfSome r (λ e. e.1.n ≡ q.n)
-  pub within : IfSome r (λ e. e.1.n ≤ 256)
   pub to : (z : Puzzle) → Table z b.w b.h machines → PushedTo r (gives z)
 
 -- ## Runs of probing

@@ -1,5 +1,5 @@
 // A cell's unsolved neighbours: finding them, and pushing them.
-ghost use Rattle.std.specs.Prelude.{◌≡◌, map, ◌*◌, ◌≤◌, ◌<◌};
+ghost use Rattle.std.specs.Prelude.{◌≡◌, map, ◌*◌, ◌<◌};
 ghost use Rattle.rules.specs.Lists.{joined};
 ghost use Rattle.rules.specs.Boards.{Puzzle, newly, beside, around};
 ghost use Rattle.rules.specs.Floats.{float};
@@ -57,7 +57,7 @@ pub fn around(b: &Board, c: CellNo) -> ArrayVec<CellNo, 4>
 
 // The unsolved neighbours of the cells that are newly solved from start to end are pushed, all at once.
 fn push_new(start: &Board, end: &Board, queue: Queue) -> Queue
-    requires { Sized start.now × SameSize start.now end.now × (queue.n ≤ 256) }
+    requires { Sized start.now × SameSize start.now end.now }
     ensures { (z : Puzzle) → OfSize z end.now → Holds queue.n (push_around z (board_of end.now) (newly (board_of start.now) (board_of end.now)) (float 10) (queue_of queue)) result }
 {
     let mut found: ArrayVec<CellNo, MOST_FOUND> = ArrayVec::new();
@@ -73,7 +73,7 @@ fn push_new(start: &Board, end: &Board, queue: Queue) -> Queue
 
 // The unsolved neighbours of newly solved cells are pushed, then those of the cell.
 pub fn push_both(start: Board, end: Board, queue: Queue, c: CellNo) -> Queue
-    requires { Sized start × SameSize start end × (c.0 < start.w * start.h) × (queue.n ≤ 256) }
+    requires { Sized start × SameSize start end × (c.0 < start.w * start.h) }
     ensures { (z : Puzzle) → OfSize z end → Holds queue.n (push_both z (board_of end) c.0 (newly (board_of start) (board_of end)) (queue_of queue)) result }
 {
     let pushed = push_new(&start, &end, queue);

@@ -1,5 +1,5 @@
 // Runs of probing.
-ghost use Rattle.std.specs.Prelude.{◌≡◌, ◌*◌, ◌≤◌, ◌<◌};
+ghost use Rattle.std.specs.Prelude.{◌≡◌, ◌*◌, ◌<◌};
 ghost use Rattle.rules.specs.Sets.{colours};
 ghost use Rattle.rules.specs.Boards.{remove_all};
 ghost use Rattle.rules.specs.Probing.{start_queue};
@@ -32,7 +32,7 @@ pub fn propagate_point(
     queue: Queue,
     machines: &[Machine; LINES],
 ) -> Option<(Board, Queue)>
-    requires { Sized board × Playable board.w board.h machines.now × (c.0 < board.w * board.h) × (queue.n ≤ 256) }
+    requires { Sized board × Playable board.w board.h machines.now × (c.0 < board.w * board.h) }
     ensures { Pushes board queue machines.now (λ z. propagate_point z (board_of board) c.0 (queue_of queue)) result }
 {
     let end = board.propagate(c, machines)?;
@@ -61,7 +61,7 @@ fn cut(
     queue: Queue,
     machines: &[Machine; LINES],
 ) -> Option<(Board, Queue)>
-    requires { Sized board × Playable board.w board.h machines.now × (c.0 < board.w * board.h) × (queue.n ≤ 256) }
+    requires { Sized board × Playable board.w board.h machines.now × (c.0 < board.w * board.h) }
     ensures { Pushes board queue machines.now (λ z. cut_colours z (board_of board) c.0 (colours bad) (queue_of queue)) result }
 {
     let b = remove_all(board, c, bad);

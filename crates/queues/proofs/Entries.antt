@@ -4,13 +4,9 @@ use mathlib.Core.List.{List}
 use mathlib.Core.Option as Math
 use Prim.Native.Nat.{ℕ, ◌+◌, ◌≤◌, ◌<◌}
 use native.Mathlib.Omega.{arith}
-use lib.ListN.{length, length-set, get_or, get_or-replicate, set, replicate, drop}
+use lib.ListN.{length, get_or, get_or-replicate, set, replicate, drop}
 use lib.Seq.{get_or-set_same, get_or-set_other, set_out}
 use lib.Ieee.{Float, nan}
-use borrow.Author.Rules.{rules}
-use mir.Val.{Val}
-use denote.Laws.{Is}
-use denote.Struct.Declared.{row}
 use Rattle.std.specs.Prelude.{None, Some}
 use Rattle.std.proofs.lemmas.List.{at_drop_more, at_drop_all}
 use Rattle.cells.specs.declared.CellNo.{CellNo}
@@ -24,15 +20,11 @@ use Rattle.rules.proofs.Queues.{pop_some, pop_low}
 use Rattle.queues.specs.declared.Queue.{Queue}
 use Rattle.queues.specs.Entries.{entry, entry_at, queue_of, Holds, TakenFrom}
 use Rattle.queues.proofs.Leading.{none_pops, found_pops}
-use Rattle.queues.specs.contracts.Queue as queue
 
--- a queue that a function is passed, or is returned, has 256 places
+-- the queue's arrays have 256 places
 pub record Long (q : Queue) : Type 0 where
   pub waits : length q.waits ≡ 256
   pub priority : length q.priority ≡ 256
-
-pub long : (q : Queue) (vs : List Val) → Is (row queue.the_type) q vs → Long q
-long q vs p = record { waits = search rules; priority = search rules }
 
 pub queue_length : (q : Queue) → length (queue_of q) ≡ q.n
 unfolding queue_of
@@ -44,41 +36,35 @@ queue_at_lem q c h = given_at (entry_at q) q.n c Math.none h
 
 -- ## Stores
 
-pub empty_holds : (n : ℕ) (ps : List Float) → n ≤ 256 → Holds n (replicate n Math.none) (record { n = n; waits = replicate 256 0; priority = ps })
+pub empty_holds : (n : ℕ) (ps : List Float) {h : n ≤ 256} → Holds n (replicate n Math.none) (record { n = n; waits = replicate 256 0; priority = ps; within = h })
 unfolding queue_of
-empty_holds n ps h = record {
+empty_holds n ps {h} = record {
   size = refl;
-  within = h;
-  queue = given_alike (λ c. entry (get_or (replicate 256 0) c 0) (get_or ps c nan)) Math.none 0 n (λ c l. ap (λ w. entry w (get_or ps c nan)) (get_or-replicate 256 c 0 0 (omega arith)));
+  queue = given_alike (λ c. entry (get_or (replicate 256 0) c 0) (get_or ps c nan)) Math.none 0 n (λ c l. ap (λ w. entry w (get_or ps c nan)) (get_or-replicate 256 c 0 0 (omega (arith, h))));
 }
 
-abbrev pub pushed : Queue → ℕ → Float → Queue
-pushed q c p = record { n = q.n; waits = set q.waits c 1; priority = set q.priority c p }
+abbrev pub pushed : (q : Queue) → ℕ → Float → q.n ≤ 256 → Queue
+pushed q c p h = record { n = q.n; waits = set q.waits c 1; priority = set q.priority c p; within = h }
 
-pub pushed_holds : (q : Queue) (c : ℕ) (p : Float) → Long q → q.n ≤ 256 → Holds q.n (push c p (queue_of q)) (pushed q c p)
+pub pushed_holds : (q : Queue) (c : ℕ) (p : Float) {h : q.n ≤ 256} → Long q → Holds q.n (push c p (queue_of q)) (pushed q c p h)
 unfolding queue_of push
-pushed_holds q c p l h = record {
+pushed_holds q c p {h} l = record {
   size = refl;
-  within = h;
-  queue = given_set (entry_at q) (entry_at (pushed q c p)) q.n c (Math.some p)
-      (λ m. rw (get_or-set_same q.waits c 1 0 (omega arith), get_or-set_same q.priority c p nan (omega arith)))
+  queue = given_set (entry_at q) (entry_at (pushed q c p h)) q.n c (Math.some p)
+      (λ m. rw (get_or-set_same q.waits c 1 0 (omega (arith, l.waits, h)), get_or-set_same q.priority c p nan (omega (arith, l.priority, h))))
       (λ k m e. rw (get_or-set_other q.waits c k 1 0 e, get_or-set_other q.priority c k p nan e));
 }
 
-pub pushed_long : (q : Queue) (c : ℕ) (p : Float) → Long q → Long (pushed q c p)
-pushed_long q c p l = record { waits = length-set q.waits c 1 ∙ l.waits; priority = length-set q.priority c p ∙ l.priority }
-
 -- a cell past the last
-pub past_holds : (q : Queue) (c : ℕ) (p : Float) → q.n ≤ 256 → q.n ≤ c → Holds q.n (push c p (queue_of q)) q
+pub past_holds : (q : Queue) (c : ℕ) (p : Float) → q.n ≤ c → Holds q.n (push c p (queue_of q)) q
 unfolding push
-past_holds q c p h k = record { size = refl; within = h; queue = sym (set_out (queue_of q) c (Math.some p) (omega (arith, queue_length q))) }
+past_holds q c p k = record { size = refl; queue = sym (set_out (queue_of q) c (Math.some p) (omega (arith, queue_length q))) }
 
 -- ## Many pushed, one after the other
 
 -- pushing the cells from place k on is all that is left to do
 pub record Pushing (cells : List CellNo) (p : Float) (whole q : Queue) (k : ℕ) : Type 0 where
   pub size : q.n ≡ whole.n
-  pub within : q.n ≤ 256
   pub rest : push_all (cell_numbers (drop k cells)) p (queue_of q) ≡ push_all (cell_numbers cells) p (queue_of whole)
 
 module _ (cells : List CellNo) (p : Float) (whole q : Queue) (k : ℕ) (t : Pushing cells p whole q k) where
@@ -89,33 +75,31 @@ module _ (cells : List CellNo) (p : Float) (whole q : Queue) (k : ℕ) (t : Push
   unfolding push_all
   pushing_turn d r h u = record {
     size = u.size ∙ t.size;
-    within = u.within;
     rest = ap (push_all (cell_numbers (drop (k + 1) cells)) p) u.queue ∙ sym (at_drop_more pushed_all cells k d h) ∙ t.rest;
   }
 
   pub pushing_end : length cells ≤ k → Holds whole.n (push_all (cell_numbers cells) p (queue_of whole)) q
   unfolding push_all
-  pushing_end h = record { size = t.size; within = t.within; queue = sym (at_drop_all pushed_all cells k h) ∙ t.rest }
+  pushing_end h = record { size = t.size; queue = sym (at_drop_all pushed_all cells k h) ∙ t.rest }
 
 -- ## Taking out
 
-abbrev pub taken : Queue → ℕ → Queue
-taken q c = record { n = q.n; waits = set q.waits c 0; priority = q.priority }
+abbrev pub taken : (q : Queue) → ℕ → q.n ≤ 256 → Queue
+taken q c h = record { n = q.n; waits = set q.waits c 0; priority = q.priority; within = h }
 
-taken_holds : (q : Queue) (c : ℕ) → Long q → q.n ≤ 256 → Holds q.n (set (queue_of q) c Math.none) (taken q c)
+taken_holds : (q : Queue) (c : ℕ) {h : q.n ≤ 256} → Long q → Holds q.n (set (queue_of q) c Math.none) (taken q c h)
 unfolding queue_of
-taken_holds q c l h = record {
+taken_holds q c {h} l = record {
   size = refl;
-  within = h;
-  queue = given_set (entry_at q) (entry_at (taken q c)) q.n c Math.none
-      (λ m. rw (get_or-set_same q.waits c 0 0 (omega arith)))
+  queue = given_set (entry_at q) (entry_at (taken q c h)) q.n c Math.none
+      (λ m. rw (get_or-set_same q.waits c 0 0 (omega (arith, l.waits, h))))
       (λ k m e. rw (get_or-set_other q.waits c k 0 0 e));
 }
 
 -- what the leader is decides what is taken out
-module _ (q : Queue) (h : q.n ≤ 256) where
+module _ (q : Queue) where
   pub none_taken : Math.none ≡ leader higher (queue_of q) (from 0 q.n) Math.none → TakenFrom q None q
-  none_taken e = record { first = sym (none_pops higher (queue_of q) q.n (queue_length q) e); below = tt; size = refl; within = h }
+  none_taken e = record { first = sym (none_pops higher (queue_of q) q.n (queue_length q) e); below = tt; size = refl }
 
   module _ (c : ℕ) (p : Float) (e : Math.some (c, p) ≡ leader higher (queue_of q) (from 0 q.n) Math.none) where
     pops : pop higher (queue_of q) ≡ Math.some (c, set (queue_of q) c Math.none)
@@ -124,5 +108,5 @@ module _ (q : Queue) (h : q.n ≤ 256) where
     pub leader_low : c < q.n
     leader_low = rw (← queue_length q) (pop_low (queue_of q) c _ (pop_some higher (queue_of q) _ _ pops))
 
-    pub some_taken : Long q → TakenFrom q (Some (record { 0 = c })) (taken q c)
-    some_taken l = let u = taken_holds q c l h in record { first = rw u.queue (sym pops); below = leader_low; size = refl; within = h }
+    pub some_taken : {h : q.n ≤ 256} → Long q → TakenFrom q (Some (record { 0 = c })) (taken q c h)
+    some_taken {h} l = let u = taken_holds q c {h = h} l in record { first = rw u.queue (sym pops); below = leader_low; size = refl }

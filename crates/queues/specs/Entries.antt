@@ -1,5 +1,5 @@
 -- What the queue's arrays stand for: the rules' queue, and the cell that is taken out of it.
-use Rattle.std.specs.Prelude.{◌≡◌, map, ℕ, zero, suc, ◌≤◌, ◌<◌, get_or, Float, Option, None, Some, IfSome}
+use Rattle.std.specs.Prelude.{◌≡◌, map, ℕ, zero, suc, ◌<◌, get_or, Float, Option, None, Some, IfSome}
 use Rattle.std.proofs.Math.Option as Math
 use Rattle.std.specs.Float.{nan}
 use Rattle.rules.specs.Lists.{from}
@@ -26,7 +26,6 @@ queue_of q = map (entry_at q) (from 0 q.n)
 -- q is the rules' queue e, for n cells
 pub record Holds (n : ℕ) (e : CellQueue) (q : Queue) : Type 0 where
   pub size : q.n ≡ n
-  pub within : q.n ≤ 256
   pub queue : queue_of q ≡ e
 
 -- the cell taken out, if one waited, and the queue then
@@ -39,7 +38,6 @@ pub record TakenFrom (q : Queue) (o : Option CellNo) (r : Queue) : Type 0 where
   pub first : taken_of o r ≡ pop higher (queue_of q)
   pub below : IfSome o (λ c. c.0 < q.n)
   pub size : r.n ≡ q.n
-  pub within : r.n ≤ 256
 
 -- the cell popped, and the queue without it
 abbrev pub popped_of : Option (CellNo × Queue) → Math.Option (Cell × CellQueue)
@@ -51,4 +49,3 @@ pub record PoppedFrom (q : Queue) (o : Option (CellNo × Queue)) : Type 0 where
   pub first : popped_of o ≡ pop higher (queue_of q)
   pub below : IfSome o (λ p. p.0.0 < q.n)
   pub size : IfSome o (λ p. p.1.n ≡ q.n)
-  pub within : IfSome o (λ p. p.1.n ≤ 256)

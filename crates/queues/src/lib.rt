@@ -9,22 +9,24 @@ ghost use Rattle.rules.specs.Options.{opt_of};
 ghost use Rattle.rules.specs.Floats.{higher};
 ghost use Rattle.rules.specs.Queues as Queues;
 ghost use Rattle.rules.specs.Probing.{push_all};
-ghost use Rattle.queues.specs.Entries.{queue_of, Holds, TakenFrom, PoppedFrom};
 
 mod ranks;
 
 use cells::CellNo;
 pub use ranks::{Rank, leader};
 
-// For each of n cells whether it waits, and with which priority: so each cell is held once.
+// For each of n cells, at most 256, whether it waits, and with which priority: so each cell is held once.
 #[derive(Clone, Copy)]
 pub struct Queue {
     pub n: usize,
     pub waits: [u8; 256],
     pub priority: [f64; 256],
+    pub ghost within: { n ≤ 256 },
 }
 
 impl Queue {
+    ghost use Rattle.queues.specs.Entries.{queue_of, Holds, TakenFrom, PoppedFrom};
+
     // A queue for n cells, of which none waits.
     pub fn empty(n: usize) -> Queue
         requires { n ≤ 256 }
@@ -37,7 +39,6 @@ impl Queue {
 
     // A cell comes to wait with a priority, in place; one already there gets the new priority. A cell past the last is not held.
     pub fn wait(&mut self, c: CellNo, p: f64)
-        requires { self.old.n ≤ 256 }
         ensures { Holds self.old.n (Queues.push c.0 p (queue_of self.old)) self.new }
     {
         let i = c.0 as usize;
@@ -49,7 +50,6 @@ impl Queue {
 
     // A cell waits with a priority, as if it came to wait in place.
     pub fn push(mut self, c: CellNo, p: f64) -> Queue
-        requires { self.n ≤ 256 }
         ensures { Holds self.n (Queues.push c.0 p (queue_of self)) result }
     {
         self.wait(c, p);
@@ -58,7 +58,6 @@ impl Queue {
 
     // Cells wait with a priority, each as if it were pushed alone; the queue is copied once for all of them.
     pub fn push_all(mut self, cells: &[CellNo], p: f64) -> Queue
-        requires { self.n ≤ 256 }
         ensures { Holds self.n (push_all (cell_numbers cells.now) p (queue_of self)) result }
     {
         for c in cells {
@@ -69,7 +68,6 @@ impl Queue {
 
     // The cell that goes first of those that wait, and its priority.
     fn leader(&self) -> Option<(usize, f64)>
-        requires { self.now.n ≤ 256 }
         ensures { opt_of result ≡ Queues.leader higher (queue_of self.now) (from 0 self.now.n) none }
     {
         leader(self.n, |c| {
@@ -79,7 +77,6 @@ impl Queue {
 
     // The cell that goes first is taken out, in place.
     pub fn take(&mut self) -> Option<CellNo>
-        requires { self.old.n ≤ 256 }
         ensures { TakenFrom self.old result self.new }
     {
         let (c, _) = self.leader()?;
@@ -89,7 +86,6 @@ impl Queue {
 
     // The cell that goes first of all, and the queue without it.
     pub fn pop(mut self) -> Option<(CellNo, Queue)>
-        requires { self.n ≤ 256 }
         ensures { PoppedFrom self result }
     {
         let c = self.take()?;

@@ -1,20 +1,15 @@
 use mathlib.Core.Path.{ap, subst, ◌∙◌}
 use mathlib.Core.List.{[], map}
-use native.Mathlib.Omega.{arith}
 use Rattle.std.proofs.lemmas.Iterator.Adapters.{YieldsList-from_rev_slice}
 use Rattle.std.proofs.lemmas.Iterator.Consumers.{YieldsList-end}
 use Rattle.cells.specs.declared.CellNo.{CellNo}
 use Rattle.rules.specs.Lists.{joined}
 use Rattle.rules.specs.Guesses.{choose}
-use Rattle.boards.proofs.Sizes.{few_cells}
 use Rattle.notes.specs.Round.{notes_of}
 use Rattle.guesses.specs.Waiting.{IfRoom}
 use Rattle.guesses.proofs.Placing.{placing_end, placed_all}
 use Rattle.guesses.proofs.choosing.choose_directions.Invariants.{of_cell}
 use Rattle.guesses.proofs.choosing.choose_directions.Goals as goal
-
-pub wait_cell-requires : goal.wait_cell-requires
-wait_cell-requires c = (c.loop-c.invariant.2.within, omega (arith, c.requires.1, few_cells c.args.b c.requires.0))
 
 pub returns : goal.returns
 unfolding choose

@@ -19,4 +19,4 @@ loop-i-preserved c =
     ]
 
 pub returns : goal.returns
-returns c = rated_end _ c.args.notes.now c.loop-i.q c.loop-i.i c.loop-i.invariant (omega arith) c.requires.1
+returns c = rated_end _ c.args.notes.now c.loop-i.q c.loop-i.i c.loop-i.invariant (omega arith) c.requires

@@ -2,12 +2,8 @@
 use lib.Ieee.{of_int, of_bits}
 use Rattle.rules.specs.Boards.{newly}
 use Rattle.boards.specs.Board.{board_of}
-use Rattle.probing.proofs.Frames.{size_of, of_size}
 use Rattle.probing.proofs.Pushing.{pushed_both}
 use Rattle.probing.proofs.neighbours.push_both.Goals as goal
-
-pub push_all-requires : goal.push_all-requires
-push_all-requires c = (c.push_new-pushed.ensures (size_of c.args.end) (of_size c.args.end)).within
 
 pub returns : goal.returns
 unfolding of_int of_bits

@@ -10,7 +10,7 @@ pub returns-then-cell-eq0 : goal.returns-then-cell-eq0
 returns-then-cell-eq0 c =
     let a = c.args in
     let e = c.remove_all-b.ensures in
-    record { size = tt; room = tt; within = tt; to = λ z t. cut_last a.board c.remove_all-b.result a.c.0 (colours a.bad) e.1 (rw (same_cells e.0) c.requires.2) (queue_of a.queue) z (sym c.cell.ensures ∙ c.if-cell-eq0.true) }
+    record { size = tt; room = tt; to = λ z t. cut_last a.board c.remove_all-b.result a.c.0 (colours a.bad) e.1 (rw (same_cells e.0) c.requires.2) (queue_of a.queue) z (sym c.cell.ensures ∙ c.if-cell-eq0.true) }
 
 pub returns : goal.returns
 returns c =

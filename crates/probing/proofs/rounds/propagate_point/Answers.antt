@@ -6,7 +6,7 @@ use Rattle.probing.proofs.rounds.propagate_point.Goals as goal
 pub returns-in_err-end : goal.returns-in_err-end
 returns-in_err-end c =
     let a = c.args in
-    rw c.from_residual.ensures (record { size = tt; room = tt; within = tt; to = λ z t. point_fails a.board a.c.0 a.queue z (c.in_err-end.ensures.to z t) })
+    rw c.from_residual.ensures (record { size = tt; room = tt; to = λ z t. point_fails a.board a.c.0 a.queue z (c.in_err-end.ensures.to z t) })
 
 pub returns : goal.returns
 returns c =
@@ -16,6 +16,5 @@ returns c =
     record {
       size = c.in_ok-end.ensures.size;
       room = u.size;
-      within = u.within;
       to = λ z t. point_pushes a.board a.c.0 a.queue z end c.push_both.result (c.in_ok-end.ensures.to z t) (c.push_both.ensures z (table_size c.in_ok-end.ensures.size t));
     }

@@ -3,4 +3,4 @@ use Rattle.queues.proofs.Entries.{empty_holds}
 use Rattle.queues.proofs.Queue.empty.Goals as goal
 
 pub returns : goal.returns
-returns c = empty_holds c.args.n _ c.requires
+returns c = empty_holds c.args.n _

@@ -4,7 +4,7 @@ use Rattle.queues.proofs.Entries.{pushed_holds, past_holds}
 use Rattle.queues.proofs.Queue.wait.Goals as goal
 
 pub returns-then-i-self : goal.returns-then-i-self
-returns-then-i-self c = let a = c.args in pushed_holds a.self.now a.c.0 a.p (record { waits = search rules; priority = search rules }) c.requires
+returns-then-i-self c = let a = c.args in pushed_holds a.self.now a.c.0 a.p (record { waits = search rules; priority = search rules })
 
 pub returns-else-i-self : goal.returns-else-i-self
-returns-else-i-self c = let a = c.args in past_holds a.self.now a.c.0 a.p c.requires c.if-i-self.false
+returns-else-i-self c = let a = c.args in past_holds a.self.now a.c.0 a.p c.if-i-self.false

@@ -1,10 +1,14 @@
 -- A store below n is a note; a cell past the last is past the notes too.
 use borrow.Author.Rules.{rules}
+use mathlib.Core.Path.{ap}
 use Rattle.notes.proofs.Noting.{cell_noted, past_noted}
 use Rattle.notes.proofs.round.Notes.note.Goals as goal
+use Rattle.notes.proofs.round.Notes.note.Goals.{then-i-self, else-i-self}
 
-pub returns-then-i-self : goal.returns-then-i-self
-returns-then-i-self c = let a = c.args in cell_noted a.self a.c.0 _ (search rules) c.requires
-
-pub returns-else-i-self : goal.returns-else-i-self
-returns-else-i-self c = let a = c.args in past_noted a.self a.c.0 _ c.requires c.if-i-self.false
+pub returns : goal.returns
+returns c =
+    let a = c.args in
+    elim c.if-i-self.branch [
+      | then-i-self w ↦ cell_noted a.self _ a.c.0 (ap (λ x. x.0) w.self-is) _ (ap (λ x. x.1.0) w.self-is) (search rules)
+      | else-i-self w ↦ past_noted a.self _ a.c.0 (ap (λ x. x.0) w.self-is) _ (ap (λ x. x.1.0) w.self-is) w.if-i-self.false
+    ]
