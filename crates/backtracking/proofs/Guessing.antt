@@ -134,7 +134,7 @@ module _ (b : Board) (c x : ℕ) (machines : List Machine) (list : List ℕ) (l 
 
         held : (g : Setting b.w b.h machines) → Holds (b.w * b.h) (push_both g.puzzle (board_of e) c (newly (put (board_of b) c x) (board_of e)) (start_queue g.puzzle (board_of b))) next
         held g = let i = starts g.puzzle (table_size b g.table) in let y = pushed g.puzzle g.table in
-            record { size = y.size ∙ i.size; within = y.within; queue = y.queue ∙ rw (set_board, i.queue) }
+            record { size = y.size ∙ i.size; queue = y.queue ∙ rw (set_board, i.queue) }
 
 -- ## The probing inside it
 

@@ -1,6 +1,6 @@
 -- By whether the propagation comes to a contradiction, and whether its board is kept.
 use Prim.Native.Nat.{◌*◌, ◌<◌}
-use Rattle.backtracking.proofs.Boarding.{size_with, sized_on, size_at, table_size}
+use Rattle.backtracking.proofs.Boarding.{size_with, sized_on, size_at}
 use Rattle.backtracking.proofs.Guessing.{sets_dead, sets_failed, sets_on}
 use Rattle.backtracking.proofs.guess.set_guess.Goals as goal
 
@@ -17,7 +17,7 @@ pub push_both-requires : goal.push_both-requires
 push_both-requires c =
     let size = size_with _ c.set-start.ensures in
     let y = c.requires in
-    (sized_on size y.0.sized, c.in-Some.ensures.size, size_at (λ a b. c.args.guess.cell.0 < a * b) size y.1, (c.unsolved_cells-queue.ensures _ (table_size _ y.0.table.table)).within)
+    (sized_on size y.0.sized, c.in-Some.ensures.size, size_at (λ a b. c.args.guess.cell.0 < a * b) size y.1)
 
 pub returns : goal.returns
 returns c =
