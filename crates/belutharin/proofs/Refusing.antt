@@ -1,6 +1,7 @@
 -- The tests of an input, one after the other: the first that fails gives its number with all untouched, and an input that passes all is accepted.
 use Rattle.std.proofs.Common.{◌≡◌, refl, sym, ap, subst, ◌∙◌, Bool, true, false, ◌&&◌, List, [], ◌∷◌, ◌++◌, replicate, get_or, length, ℕ, ◌+◌, ◌*◌, ◌≤◌, leb, Option, None, Some, Result, Ok, Err}
 use Rattle.std.proofs.Math.Option as Math
+use Rattle.std.specs.Prelude.{IsErrAnd}
 use borrow.Author.Tests.{leb-true}
 use Rattle.rules.specs.Clues.{Clue, clues_of}
 use Rattle.rules.specs.Answers as Rules
@@ -26,6 +27,11 @@ use Rattle.belutharin.specs.declared.answers.Answer.{Answer}
 -- what the rules answer keeps the promise
 pub promised : (a : Asked) {r : Rules.Answer} → r ≡ solve a → (r ≡ solve a) × Promised a r
 promised a e = (e, subst (λ r. Promised a r) (sym e) (solve_promised a))
+
+-- a refusal that is passed on leaves all untouched
+pub refused_with : (a : Asked) (r : Result Answer Refusal) (e : Refusal) → IsErrAnd r (λ f. f ≡ e) → untouched a (refusal_number e) ≡ solve a → answer r a.cells a.list ≡ solve a
+refused_with a (Err f) e q h = ap (λ x. untouched a (refusal_number x)) q ∙ h
+refused_with a (Ok y) e q h = absurd q
 
 module _ (a : Asked) where
   same_refusal : (e f : Refusal) → e ≡ f → untouched a (refusal_number e) ≡ untouched a (refusal_number f)

@@ -1,9 +1,8 @@
 -- By the tests in their order; an input that passes all is searched. What the rules answer keeps the promise (`promised`).
 use Rattle.std.proofs.Common.{◌≡◌}
-use Rattle.std.proofs.lemmas.Result.{err_from_is_err_and}
 use Rattle.rules.specs.declared.Refusal.TheVariants.{Clues}
 use Rattle.belutharin.specs.Answers.{asked}
-use Rattle.belutharin.proofs.Refusing.{promised, numbers_refused, clues_refused, lent_refused}
+use Rattle.belutharin.proofs.Refusing.{promised, refused_with, numbers_refused, clues_refused, lent_refused}
 use Rattle.belutharin.proofs.Accepting.{given, solved_all}
 use Rattle.belutharin.proofs.solving.solve.Goals as goal
 
@@ -11,26 +10,23 @@ pub returns-in_err-accept_numbers-clause-answered : goal.returns-in_err-accept_n
 returns-in_err-accept_numbers-clause-answered c =
     let a = c.args in
     let q = asked a.w a.h a.k a.most_grids a.most_depth a.budget a.clues.now a.cells.now a.list.now in
-    let p = err_from_is_err_and c.from_residual.result c.from_residual.ensures.1 in
-    rw (p.1, p.2) (numbers_refused q _ c.in_err-accept_numbers.ensures)
+    refused_with q _ _ c.from_residual.ensures.1 (numbers_refused q _ c.in_err-accept_numbers.ensures)
 
 pub returns-in_err-machines-clause-answered : goal.returns-in_err-machines-clause-answered
 returns-in_err-machines-clause-answered c =
     let a = c.args in
     let q = asked a.w a.h a.k a.most_grids a.most_depth a.budget a.clues.now a.cells.now a.list.now in
-    let p = err_from_is_err_and c.from_residual-in_err-machines.result c.from_residual-in_err-machines.ensures.1 in
     let none = rw c.in_err-machines.ensures.ok_part at c.read_table.ensures in
     let clues = rw c.in_err-machines.ensures.ok_part at c.in_err-machines.ensures.value in
     let is : c.in_err-machines.field-0.0 ≡ Clues = cc in
-    rw (p.1, p.2) (clues_refused q c.in_ok-accept_numbers.ensures none _ is)
+    refused_with q _ _ c.from_residual-in_err-machines.ensures.1 (clues_refused q c.in_ok-accept_numbers.ensures none _ is)
 
 pub returns-in_err-accept_lent-clause-answered : goal.returns-in_err-accept_lent-clause-answered
 returns-in_err-accept_lent-clause-answered c =
     let a = c.args in
     let q = asked a.w a.h a.k a.most_grids a.most_depth a.budget a.clues.now a.cells.now a.list.now in
-    let p = err_from_is_err_and c.from_residual-in_err-accept_lent.result c.from_residual-in_err-accept_lent.ensures.1 in
     let read = rw c.in_ok-machines.ensures.ok_part at c.read_table.ensures in
-    rw (p.1, p.2) (lent_refused q c.in_ok-accept_numbers.ensures read.0 read.1 _ c.in_err-accept_lent.ensures)
+    refused_with q _ _ c.from_residual-in_err-accept_lent.ensures.1 (lent_refused q c.in_ok-accept_numbers.ensures read.0 read.1 _ c.in_err-accept_lent.ensures)
 
 pub searched-requires : goal.searched-requires
 searched-requires c =
