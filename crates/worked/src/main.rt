@@ -2,7 +2,6 @@
 #![tactic(auto)]
 
 use expected::{Expected, Numbers, Question, UNTOUCHED};
-use rules::Refusal;
 use std::io;
 
 // Twin, with the limits of that page.
@@ -29,7 +28,7 @@ fn say(rt: &impl Print, grid: u64, agrees: bool) -> io::Result<()> {
 
 // Grid 7: the rate of 256 and 0 is refused.
 fn refused_rate() -> bool {
-    rates::rate(256, 0) == Err(Refusal::Rate)
+    rates::rate(256, 0).is_err_and(|refusal| refusal.number() == 19)
 }
 
 // Grid 13: Twin with most grids 2, and 0.
