@@ -9,7 +9,7 @@ ghost use Rattle.probing.specs.Neighbours.{OfSize};
 ghost use Rattle.probing.specs.Start.{SolvedOn, PriorityIs};
 
 use crate::neighbours::around;
-use boards::Board;
+use boards::{Board, LINES};
 use cells::CellNo;
 use queues::Queue;
 
@@ -27,11 +27,11 @@ fn solved_on(b: &Board, i: usize) -> u8
 }
 
 // The same for every line, rows before columns.
-fn solved_lines(b: &Board) -> [u8; 32]
+fn solved_lines(b: &Board) -> [u8; LINES]
     requires { Sized b.now }
     ensures { SolvedOn b.now (b.now.h + b.now.w) result }
 {
-    let mut solved = [0u8; 32];
+    let mut solved = [0; LINES];
     for i in 0..b.h + b.w {
         solved[i] = solved_on(b, i);
     }
