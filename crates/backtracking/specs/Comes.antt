@@ -75,6 +75,15 @@ pub record ToTry (t : Node) (list : List ℕ) (l : Given) (n : Node) (g : Guess)
   pub grids : t.stats.grids < l.grids
   pub steps : t.stats.steps < l.budget
 
+-- A step of the node n that goes on, with what it gives.
+abbrev pub and_node : ControlFlow Ended (Option Guess) → Node → ControlFlow Ended (Node × Option Guess)
+and_node (Continue g) n = Continue (n, g)
+and_node (Break r) n = Break r
+
+abbrev pub then_node : ControlFlow Ended (Unit {0}) → Node → ControlFlow Ended Node
+then_node (Continue u) n = Continue n
+then_node (Break r) n = Break r
+
 -- What comes before a guess.
 pub record Begins (t : Node) (machines : List Machine) (list : List ℕ) (l : Given) (d : ℕ) (r : ControlFlow Ended (Node × Option Guess)) (out : List ℕ) : Type 0 where
   pub within : EndWithin t.board l (λ v. NodeWithin t.board l v.0 × IfSome v.1 (λ g. ToTry t list l v.0 g out)) r

@@ -6,7 +6,7 @@ ghost use Rattle.rules.specs.Answers.{most_waiting};
 ghost use Rattle.lines.specs.declared.machine.Machine.{Machine};
 ghost use Rattle.boards.specs.Board.{board_of, Sized};
 ghost use Rattle.backtracking.specs.Setting.{Ready};
-ghost use Rattle.backtracking.specs.Comes.{ProbesNode, Begins, Ends, Refills};
+ghost use Rattle.backtracking.specs.Comes.{ProbesNode, and_node, then_node, Begins, Ends, Refills};
 
 use crate::ended::{Ended, ask};
 use crate::store::check_and_store;
@@ -72,80 +72,69 @@ fn is_open(board: Board, guess: Guess) -> bool
 
 // Limits are asked. A guess whose colour is gone is skipped. A cell with one colour left is never guessed: skipped if this node itself has already run probing, otherwise the node is probed. The node goes on with the guess that is to be tried, if there is one.
 pub fn before_guess(
-    node: Node,
+    node: &mut Node,
     list: &mut [u8],
     task: Task,
     depth: usize,
-) -> ControlFlow<Ended, (Node, Option<Guess>)>
-    requires { Ready node.board task.machines.now list.old task.limits node.stats × (node.guesses.head < most_waiting) }
-    ensures { Begins node task.entry.machines.now list.old task.entry.limits depth result list.new }
+) -> ControlFlow<Ended, Option<Guess>>
+    requires { Ready node.old.board task.machines.now list.old task.limits node.old.stats × (node.old.guesses.head < most_waiting) }
+    ensures { Begins node.old task.entry.machines.now list.old task.entry.limits depth (and_node result node.new) list.new }
 {
     ask(node.board, node.stats, task.limits, depth)?;
     let guess = node.guesses.first();
-    let rest = Node {
-        guesses: node.guesses.rest(),
-        ..node
-    };
+    node.guesses = node.guesses.rest();
     if !is_open(node.board, guess) {
-        return Continue((rest, None));
+        return Continue(None);
     }
     if !cells::is_solved(node.board.cell(guess.cell)) {
-        return Continue((rest, Some(guess)));
+        return Continue(Some(guess));
     }
     if node.probed {
-        return Continue((rest, None));
+        return Continue(None);
     }
     let (board, stats) = probe_node(node.board, list, node.stats, task)?;
-    let probed = Node {
-        board,
-        probed: true,
-        stats,
-        ..rest
-    };
-    Continue((probed, None))
+    node.board = board;
+    node.probed = true;
+    node.stats = stats;
+    Continue(None)
 }
 
 // After a dead guess its colour is removed (the last one: node dead), the node is probed, and the cell's other colours come to wait. Another guess is noted as made.
 pub fn after_guess(
-    node: Node,
+    node: &mut Node,
     guess: Guess,
     dead: bool,
     list: &mut [u8],
     task: Task,
-) -> ControlFlow<Ended, Node>
-    requires { Ready node.board task.machines.now list.old task.limits node.stats × (node.guesses.head ≤ most_waiting) × (guess.cell.0 < node.board.w * node.board.h) × (guess.colour.0 < 8) × (node.stats.steps ≤ 2 ^ 40) }
-    ensures { Ends node guess.cell.0 guess.colour.0 dead task.entry.machines.now list.old task.entry.limits result list.new }
+) -> ControlFlow<Ended>
+    requires { Ready node.old.board task.machines.now list.old task.limits node.old.stats × (node.old.guesses.head ≤ most_waiting) × (guess.cell.0 < node.old.board.w * node.old.board.h) × (guess.colour.0 < 8) × (node.old.stats.steps ≤ 2 ^ 40) }
+    ensures { Ends node.old guess.cell.0 guess.colour.0 dead task.entry.machines.now list.old task.entry.limits (then_node result node.new) list.new }
 {
     if !dead {
-        return Continue(Node {
-            made: guesses::mark(node.made, guess.cell, guess.colour),
-            ..node
-        });
+        node.made = guesses::mark(node.made, guess.cell, guess.colour);
+        return Continue(());
     }
-    let a = node.board.remove(guess.cell, guess.colour);
-    if a.cell(guess.cell) == 0 {
+    let board = node.board.remove(guess.cell, guess.colour);
+    if board.cell(guess.cell) == 0 {
         return Break(Ended {
             dead: true,
-            board: a,
+            board,
             stats: node.stats,
         });
     }
-    let (board, stats) = probe_node(a, list, node.stats, task)?;
-    Continue(Node {
-        board,
-        guesses: node
-            .guesses
-            .others(guess.cell, guess.colour, board.cell(guess.cell)),
-        probed: true,
-        stats,
-        ..node
-    })
+    let (board, stats) = probe_node(board, list, node.stats, task)?;
+    let set = board.cell(guess.cell);
+    node.board = board;
+    node.guesses = node.guesses.others(guess.cell, guess.colour, set);
+    node.probed = true;
+    node.stats = stats;
+    Continue(())
 }
 
 // M3: when guesses run out limits are asked; if the board is unsolved and no cell is closed, the first unsolved cell gives new guesses. Otherwise the node ends, not dead.
-pub fn refill(node: Node, limits: Limits, depth: usize) -> ControlFlow<Ended, Node>
-    requires { Sized node.board × (node.stats.grids ≤ limits.grids) × (node.guesses.head ≤ most_waiting) }
-    ensures { (machines : List Machine) (list : List ℕ) → Refills node machines list limits depth result }
+pub fn refill(node: &mut Node, limits: Limits, depth: usize) -> ControlFlow<Ended>
+    requires { Sized node.old.board × (node.old.stats.grids ≤ limits.grids) × (node.old.guesses.head ≤ most_waiting) }
+    ensures { (machines : List Machine) (list : List ℕ) → Refills node.old machines list limits depth (then_node result node.new) }
 {
     ask(node.board, node.stats, limits, depth)?;
     if node.board.is_solved_full() || guesses::any_closed(node.board, node.made) {
@@ -155,8 +144,6 @@ pub fn refill(node: Node, limits: Limits, depth: usize) -> ControlFlow<Ended, No
             stats: node.stats,
         });
     }
-    Continue(Node {
-        guesses: guesses::first_unsolved(node.board),
-        ..node
-    })
+    node.guesses = guesses::first_unsolved(node.board);
+    Continue(())
 }

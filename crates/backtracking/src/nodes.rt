@@ -2,7 +2,7 @@
 ghost use Rattle.std.specs.Prelude.{◌≡◌, ◌+◌, ◌*◌, ◌≤◌, ◌<◌};
 ghost use Rattle.rules.specs.Answers.{most_waiting};
 ghost use Rattle.backtracking.specs.Setting.{Ready};
-ghost use Rattle.backtracking.specs.Comes.{NodeStands, SearchStands, GuessStands, Searches, Passes, Turns, Tries};
+ghost use Rattle.backtracking.specs.Comes.{then_node, NodeStands, SearchStands, GuessStands, Searches, Passes, Turns, Tries};
 
 use crate::ended::{Ended, ask};
 use crate::guess::enter_guess;
@@ -32,65 +32,54 @@ pub fn search(
     if let Break(end) = ask(board, stats, task.limits, depth) {
         return end;
     }
-    let begun = Node {
+    let mut node = Node {
         board,
         guesses: waiting,
         probed: false,
         made: [0; 256],
         stats: stats.deeper(depth),
     };
-    let mut spent = match search_mutable(begun, &mut *list, task, left) {
-        Continue(n) => n,
-        Break(end) => return end,
-    };
+    if let Break(end) = search_mutable(&mut node, &mut *list, task, left) {
+        return end;
+    }
     loop {
-        let node = match refill(spent, task.limits, depth) {
-            Continue(n) => n,
-            Break(end) => return end,
-        };
-        spent = match search_mutable(node, &mut *list, task, left) {
-            Continue(n) => n,
-            Break(end) => return end,
-        };
+        if let Break(end) = refill(&mut node, task.limits, depth) {
+            return end;
+        }
+        if let Break(end) = search_mutable(&mut node, &mut *list, task, left) {
+            return end;
+        }
     }
 }
 
 // A pass over the guesses that wait; the node goes on when they have run out.
 #[cycle(search_search_mutable_try_direction_turn)]
-fn search_mutable(
-    mut node: Node,
-    list: &mut [u8],
-    task: Task,
-    left: usize,
-) -> ControlFlow<Ended, Node>
-    requires { Ready node.board task.machines.now list.old task.limits node.stats × (node.guesses.head ≤ most_waiting) × (1 ≤ left) × (left ≤ task.limits.depth + 1) × NodeStands node task.machines.now list.old }
-    ensures { Passes node task.entry.machines.now list.old task.entry.limits left result list.new }
+fn search_mutable(node: &mut Node, list: &mut [u8], task: Task, left: usize) -> ControlFlow<Ended>
+    requires { Ready node.old.board task.machines.now list.old task.limits node.old.stats × (node.old.guesses.head ≤ most_waiting) × (1 ≤ left) × (left ≤ task.limits.depth + 1) × NodeStands node.old task.machines.now list.old }
+    ensures { Passes node.old task.entry.machines.now list.old task.entry.limits left (then_node result node.new) list.new }
 {
     while node.guesses.head < MOST_WAITING {
-        node = turn(node, &mut *list, task, left)?;
+        turn(&mut *node, &mut *list, task, left)?;
     }
-    Continue(node)
+    Continue(())
 }
 
 // The next guess: limits are asked before it, and the board is restored after it.
 #[cycle(search_search_mutable_try_direction_turn)]
-fn turn(node: Node, list: &mut [u8], task: Task, left: usize) -> ControlFlow<Ended, Node>
-    requires { Ready node.board task.machines.now list.old task.limits node.stats × (node.guesses.head < most_waiting) × (1 ≤ left) × (left ≤ task.limits.depth + 1) × NodeStands node task.machines.now list.old }
-    ensures { Turns node task.entry.machines.now list.old task.entry.limits left result list.new }
+fn turn(node: &mut Node, list: &mut [u8], task: Task, left: usize) -> ControlFlow<Ended>
+    requires { Ready node.old.board task.machines.now list.old task.limits node.old.stats × (node.old.guesses.head < most_waiting) × (1 ≤ left) × (left ≤ task.limits.depth + 1) × NodeStands node.old task.machines.now list.old }
+    ensures { Turns node.old task.entry.machines.now list.old task.entry.limits left (then_node result node.new) list.new }
 {
     let depth = task.limits.depth + 1 - left;
-    let (node, next) = before_guess(node, &mut *list, task, depth)?;
+    let next = before_guess(&mut *node, &mut *list, task, depth)?;
     let Some(guess) = next else {
-        return Continue(node);
+        return Continue(());
     };
     let saved = node.board;
-    let r = try_direction(saved, guess, &mut *list, node.stats, task, left - 1);
-    let back = Node {
-        board: r.board.restore(saved),
-        stats: r.stats,
-        ..node
-    };
-    after_guess(back, guess, r.dead, list, task)
+    let tried = try_direction(saved, guess, &mut *list, node.stats, task, left - 1);
+    node.board = tried.board.restore(saved);
+    node.stats = tried.stats;
+    after_guess(node, guess, tried.dead, list, task)
 }
 
 // One guess, at its own depth.

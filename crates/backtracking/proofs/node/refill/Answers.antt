@@ -14,4 +14,4 @@ returns-then-is_solved_full c machines list = refills_over _ _ _ _ _ c.requires.
 ])
 
 pub returns : goal.returns
-returns c machines list = refills_more _ _ _ _ _ c.requires.1 c.in_ok-ask.ensures.is c.first_unsolved.result (λ those i. rw (← c.is_solved_full.ensures, c.if-is_solved_full.false) (sym (c.any_closed.ensures those i) ∙ c.if-any_closed.false)) c.first_unsolved.ensures
+returns c machines list = refills_more _ _ _ _ _ c.requires.1 c.in_ok-ask.ensures.is c.first_unsolved-node.result (λ those i. rw (← c.is_solved_full.ensures, c.if-is_solved_full.false) (sym (c.any_closed.ensures those i) ∙ c.if-any_closed.false)) c.first_unsolved-node.ensures

@@ -17,11 +17,11 @@ decreases-try_direction l = 4 * l.left + 4
 abbrev pub decreases-turn : goal.decreases-turn
 decreases-turn l = 4 * l.left + 1
 
-abbrev pub invariant-search-loop-n : goal.invariant-search-loop-n
-invariant-search-loop-n l = Resting l.fn.board l.fn.waiting l.task.machines.now l.fn.list l.task.limits l.left l.fn.stats l.spent l.list
+abbrev pub invariant-search-loop-end : goal.invariant-search-loop-end
+invariant-search-loop-end l = Resting l.fn.board l.fn.waiting l.task.machines.now l.fn.list l.task.limits l.left l.fn.stats l.node l.list
 
-abbrev pub decreases-search-loop-n : goal.decreases-search-loop-n
-decreases-search-loop-n l = rest_size l.spent
+abbrev pub decreases-search-loop-end : goal.decreases-search-loop-end
+decreases-search-loop-end l = rest_size l.node
 
 abbrev pub invariant-search_mutable-loop-node : goal.invariant-search_mutable-loop-node
 invariant-search_mutable-loop-node l = Passing l.fn.node l.task.machines.now l.fn.list l.task.limits l.left l.node l.list
