@@ -1,13 +1,16 @@
 -- How a clue's machine is made, a cell and a block at a time, from the clue's end; and that its masks have room.
-use Rattle.std.proofs.Common.{◌≡◌, refl, ap, ap₂, sym, ◌∙◌, subst, Bool, true, false, List, [], ◌∷◌, ℕ, zero, suc, ◌+◌, ◌-◌, ◌*◌, ◌^◌, ◌≤◌, ◌<◌, eqb, leb, length, get_or, set, take, drop, replicate, bit_or, arith, pow-suc, pow_mono, pow_pos, ext_get_or, take_all, get_or-drop, length-drop, leb-true}
+use Rattle.std.proofs.Common.{◌≡◌, refl, ap, ap₂, sym, ◌∙◌, subst, Bool, true, false, List, [], ◌∷◌, ℕ, zero, suc, ◌+◌, ◌-◌, ◌*◌, ◌/◌, ◌^◌, ◌≤◌, ◌<◌, eqb, leb, length, get_or, set, take, drop, replicate, bit_or, arith, pow-suc, pow_mono, pow_pos, ext_get_or, take_all, get_or-drop, length-drop, leb-true}
 use lib.Bits.{or_lt}
 use lib.ListN.{length-replicate, length-map, get_or-map}
+use lib.Seq.{drop-cons}
 use mir.Val.{bool_byte}
 use Rattle.rules.specs.Sets.{Colour}
 use Rattle.rules.specs.Lists.{every}
 use Rattle.rules.specs.Clues.{Block, Clue, allowed, regular}
 use Rattle.rules.specs.Lines.{cells_of, between}
 use Rattle.rules.proofs.Tests.{by_equal, and_true}
+use Rattle.rules.proofs.Clues.{allowed_out}
+use Rattle.rules.proofs.Stretches.{between_same, between_other}
 use Rattle.lines.specs.declared.machine.Machine.{Machine}
 use Rattle.lines.specs.Machines.{raised, pushed, pushed_all, opened, machine, need, Room, clue_in, first_in, rest_in, Legal, Coloured}
 use Rattle.lines.proofs.Accepting.{coloured, between_blanks, by_same, by_other, by_long, machine_long, zeros}
@@ -114,6 +117,15 @@ blanks_some bytes h =
     parted true = refl
     parted false = refl
 
+-- a clue that the layout allows needs few cells
+need_each : (k : ℕ) (clue : Clue) → every (allowed k) clue ≡ true → need clue ≤ 17 * length clue
+unfolding need
+need_each k [] e = omega arith
+need_each k (b ∷ clue) e =
+    let r = and_true (allowed k b) (every (allowed k) clue) e in
+    let w = between_blanks b clue in
+    omega (arith, (allowed_out k b r.0).3, need_each k clue r.1, ap length w.2, length-replicate {A = ℕ} w.0 0)
+
 pub need_none : need [] ≡ 0
 unfolding need
 need_none = refl
@@ -164,3 +176,32 @@ unfolding regular
 legal_pairs bytes legal =
     let r = and_true (leb (length (clue_in bytes)) 16) (every (allowed 7) (clue_in bytes)) legal in
     (omega (arith, clue_long bytes, leb-true (length (clue_in bytes)) 16 r.0), coloured 7 (clue_in bytes) (omega arith) legal)
+
+-- ## Its blocks by their number
+
+-- block i
+abbrev pub block_at : List ℕ → ℕ → Block
+block_at bytes i = record { colour = get_or bytes (2 * i) 0; cells = get_or bytes (2 * i + 1) 0 }
+
+-- the blocks from block j on
+abbrev pub rest_at : List ℕ → ℕ → Clue
+rest_at bytes j = clue_in (drop (2 * j) bytes)
+
+drop_pair : (bytes : List ℕ) (i : ℕ) → 2 * i + 1 < length bytes → drop (2 * i) bytes ≡ get_or bytes (2 * i) 0 ∷ get_or bytes (2 * i + 1) 0 ∷ drop (2 * suc i) bytes
+drop_pair bytes i h =
+    let e : suc (2 * i) ≡ 2 * i + 1 = omega arith in
+    let d : suc (2 * i + 1) ≡ 2 * suc i = omega arith in
+    drop-cons bytes (2 * i) 0 (omega arith)
+    ∙ ap (λ l. get_or bytes (2 * i) 0 ∷ l) (ap (λ n. drop n bytes) e ∙ drop-cons bytes (2 * i + 1) 0 h ∙ ap (λ n. get_or bytes (2 * i + 1) 0 ∷ drop n bytes) d)
+
+rest_cons : (bytes : List ℕ) (i : ℕ) → i < length bytes / 2 → rest_at bytes i ≡ block_at bytes i ∷ rest_at bytes (suc i)
+unfolding clue_in
+rest_cons bytes i h = ap clue_in (drop_pair bytes i (omega arith))
+
+pub blanks_same : (bytes : List ℕ) (j : ℕ) → j < length bytes / 2 → get_or bytes (2 * (j - 1)) 0 ≡ get_or bytes (2 * j) 0 → 0 ∷ [] ≡ between (block_at bytes (j - 1)) (rest_at bytes j)
+blanks_same bytes j l e =
+    sym (ap (between (block_at bytes (j - 1))) (rest_cons bytes j l) ∙ between_same (block_at bytes (j - 1)) (block_at bytes j) (rest_at bytes (suc j)) e)
+
+pub blanks_other : (bytes : List ℕ) (j : ℕ) → j < length bytes / 2 → (get_or bytes (2 * (j - 1)) 0 ≡ get_or bytes (2 * j) 0 → ⊥) → [] ≡ between (block_at bytes (j - 1)) (rest_at bytes j)
+blanks_other bytes j l n =
+    sym (ap (between (block_at bytes (j - 1))) (rest_cons bytes j l) ∙ between_other (block_at bytes (j - 1)) (block_at bytes j) (rest_at bytes (suc j)) n)
