@@ -1,24 +1,24 @@
 -- Sets of pending lines as numbers: the lowest line, a set without a line, two sets together, and a set moved up.
-use mathlib.Core.Path.{◌≡◌, sym, ap, ap₂, ◌∙◌}
+use mathlib.Core.Path.{◌≡◌, refl, sym, ap, ap₂, ◌∙◌}
 use mathlib.Core.Logic.{inl, inr}
 use mathlib.Core.Bool.{true, false, not, ◌&&◌, ◌||◌}
 use mathlib.Core.Option.{some}
-use Prim.Native.Nat.{ℕ, ◌+◌, ◌-◌, ◌*◌, ◌/◌, ◌%◌, ◌^◌, ◌≤◌, ◌<◌}
-use native.Mathlib.Nat.{add-zero}
+use Prim.Native.Nat.{ℕ, zero, suc, ◌+◌, ◌-◌, ◌*◌, ◌/◌, ◌%◌, ◌^◌, ◌≤◌, ◌<◌}
+use native.Mathlib.Nat.{add-zero, pow-suc}
 use native.Mathlib.Omega.{arith}
 use lib.Bits.{bit_and, bit_or, or_lt}
-use lib.Count.{count_trailing_zeros}
+use lib.Count.{under, count_trailing_zeros}
 use lib.Dec.{eqb}
 use lib.Pow.{pow-lt, pow_mono, shr-shr, shl-shr}
 use mir.Syntax.{w32}
 use borrow.Author.Tests.{eq-eqb, ne_eqb}
 use Rattle.std.proofs.Math.Bool.{and-false, and-true}
-use Rattle.std.proofs.lemmas.Nat.Bits.{bit_at-zero, bit_at-trailing_zeros, bit_at_clear_same, bit_at_clear_other, bit_at_cat_low}
+use Rattle.std.proofs.lemmas.Nat.Bits.{bit_at-zero, bit_at_clear_same, bit_at_clear_other, bit_at_cat_low}
 use Rattle.rules.specs.Lists.{first, from}
 use Rattle.rules.specs.Sets.{bit, has, set_of, only}
 use Rattle.rules.proofs.Tests.{by_equal, or_true, true_or, same_test}
 use Rattle.rules.proofs.Lists.{first_least}
-use Rattle.rules.proofs.Sets.{has_in, in_has, has_only, has-set_of, set_of-low, same_set, member_low}
+use Rattle.rules.proofs.Sets.{bit_zero, has_in, in_has, has_suc, has_only, has-set_of, set_of-low, same_set, member_low}
 use Rattle.lines.proofs.Masks.{or_left, or_right, or_of}
 
 -- a number is in a set, or is not, by its bit
@@ -65,13 +65,34 @@ has_up_low s n j h = by_no_bit (s * 2 ^ n) j (rw add-zero at (bit_at_cat_low s n
 
 -- ## The lowest number
 
-lowest : (n s : ℕ) → 0 < s → s < 2 ^ n → n ≤ 32 → (has s (count_trailing_zeros 32 s) ≡ true) × ((j : ℕ) → j < count_trailing_zeros 32 s → has s j ≡ false)
-unfolding bit
-lowest n s h l m = let t = bit_at-trailing_zeros w32 s h (let z = pow_mono m in omega arith) in (by_bit s _ t.1, λ j r. by_no_bit s j (t.2 j r))
+odd_has : (s : ℕ) → s % 2 ≡ 1 → has s 0 ≡ true
+odd_has s e = by_bit s 0 (bit_zero s ∙ e)
 
-pub lowest_low : (n s : ℕ) → 0 < s → s < 2 ^ n → n ≤ 32 → count_trailing_zeros 32 s < n
-lowest_low n s h l m = member_low n s (count_trailing_zeros 32 s) l (lowest n s h l m).0
+even_has : (s : ℕ) → s % 2 ≡ 0 → has s 0 ≡ false
+even_has s e = by_no_bit s 0 (bit_zero s ∙ e)
 
-pub lowest_first : (n s : ℕ) → 0 < s → s < 2 ^ n → n ≤ 32 → first (has s) (from 0 n) ≡ some (count_trailing_zeros 32 s)
-lowest_first n s h l m = let t = lowest n s h l m in
-    first_least (has s) 0 n (count_trailing_zeros 32 s) (omega arith) (let z = lowest_low n s h l m in omega arith) t.0 (λ j g r. t.1 j r)
+lowest_in : (k s : ℕ) → 0 < s → s < 2 ^ k → has s (count_trailing_zeros k s) ≡ true
+unfolding count_trailing_zeros
+lowest_in zero s h l = absurd (omega arith)
+lowest_in (suc k) s h l = go (s % 2) refl (λ p. lowest_in k (s / 2) p (let q = pow-suc 2 k in omega arith))
+  where
+    go : (d : ℕ) → s % 2 ≡ d → (0 < s / 2 → has (s / 2) (count_trailing_zeros k (s / 2)) ≡ true) → has s (under d (count_trailing_zeros k (s / 2))) ≡ true
+    go zero e ih = has_suc s (count_trailing_zeros k (s / 2)) ∙ ih (omega arith)
+    go (suc d) e ih = odd_has s (omega arith)
+
+lowest_least : (k s j : ℕ) → j < count_trailing_zeros k s → has s j ≡ false
+unfolding count_trailing_zeros
+lowest_least zero s j h = absurd (omega arith)
+lowest_least (suc k) s j h = go (s % 2) j refl h (λ i l. lowest_least k (s / 2) i l)
+  where
+    go : (d j : ℕ) → s % 2 ≡ d → j < under d (count_trailing_zeros k (s / 2)) → ((i : ℕ) → i < count_trailing_zeros k (s / 2) → has (s / 2) i ≡ false) → has s j ≡ false
+    go zero zero e l ih = even_has s e
+    go zero (suc j) e l ih = has_suc s j ∙ ih j (omega arith)
+    go (suc d) j e l ih = absurd (omega arith)
+
+pub lowest_low : (k n s : ℕ) → 0 < s → s < 2 ^ n → n ≤ k → count_trailing_zeros k s < n
+lowest_low k n s h l m = member_low n s (count_trailing_zeros k s) l (lowest_in k s h (let z = pow_mono m in omega arith))
+
+pub lowest_first : (k n s : ℕ) → 0 < s → s < 2 ^ n → n ≤ k → first (has s) (from 0 n) ≡ some (count_trailing_zeros k s)
+lowest_first k n s h l m = first_least (has s) 0 n (count_trailing_zeros k s) (omega arith) (let z = lowest_low k n s h l m in omega arith)
+    (lowest_in k s h (let z = pow_mono m in omega arith)) (λ j g r. lowest_least k s j r)

@@ -14,7 +14,7 @@ use lib.ListN.{length, take}
 use lib.Seq.{length-take-le}
 use Rattle.rules.specs.Lists.{from}
 use Rattle.rules.specs.Loops.{more, stop}
-use Rattle.rules.specs.Sets.{has, members}
+use Rattle.rules.specs.Sets.{has, members, only}
 use Rattle.rules.specs.Lines.{reduce}
 use Rattle.rules.specs.Boards.{size, Puzzle, line_count, line_cells, line_of, clue_at}
 use Rattle.rules.specs.Propagation.{Pending, pending, write, next, propagate_step, propagate_on, propagate}
@@ -31,7 +31,7 @@ use Rattle.boards.specs.Table.{Table, Playable}
 use Rattle.boards.specs.Propagation.{NarrowedTo, Narrows, cell_lines, crossed, Propagates}
 use Rattle.boards.proofs.Sizes.{few_cells, at_size, same_size, sized_as}
 use Rattle.boards.proofs.Places.{take_write}
-use Rattle.boards.proofs.Pending.{lowest_first, lowest_low}
+use Rattle.boards.proofs.Pending.{shifted_one, lowest_first, lowest_low}
 use Rattle.boards.proofs.Crossing.{cells_low, crossed_low}
 use Rattle.boards.proofs.Waking.{pend_is}
 
@@ -46,8 +46,16 @@ abbrev pub pending_next : ℕ → ℕ → ℕ
 pending_next p woken = bit_or (bit_and p (4294967295 - 1 * 2 ^ lowest p % 4294967296)) woken
 
 -- it was reduced, and lost a colour in these of its cells
+abbrev pub pending_reduced : ℕ → ℕ → ℕ → ℕ
+pending_reduced h p gone = pending_next p (crossed h (lowest p) gone)
+
+-- as the rules say it: without the set of that line alone
 abbrev pub pending_after : ℕ → ℕ → ℕ → ℕ
-pending_after h p gone = pending_next p (crossed h (lowest p) gone)
+pending_after h p gone = bit_or (bit_and p ((2 ^ 32 - 1) - only (lowest p))) (crossed h (lowest p) gone)
+
+-- as the code has it
+pub pending_after_lem : (h p gone woken : ℕ) → lowest p < 32 → woken ≡ crossed h (lowest p) gone → bit_or (bit_and p (4294967295 - 1 * 2 ^ lowest p % 4294967296)) woken ≡ pending_after h p gone
+pending_after_lem h p gone woken l e = ap₂ (λ (x y : ℕ). bit_or (bit_and p (4294967295 - x)) y) (shifted_one (lowest p) l) e
 
 -- some line is pending on the board, and the lowest was reduced there
 record Found (z : Puzzle) (w h : ℕ) (cells : List ℕ) (p : ℕ) (after : List ℕ) (r : Option ℕ) : Type 0 where
@@ -66,25 +74,25 @@ module _ (z : Puzzle) (cells : List ℕ) (p : ℕ) where
 
   module _ (after : List ℕ) where
     next_is : {r : Option ℕ} → Found z z.width z.height cells p after r → next z p ≡ some (lowest p)
-    next_is f = lowest_first (line_count z) p f.some_line f.few f.small
+    next_is f = lowest_first 32 (line_count z) p f.some_line f.few f.small
 
     step_none : Found z z.width z.height cells p after None → propagate_step z (pending board p) ≡ stop none
     step_none f = let e = next_is f in let q = f.found.0 in rw (e, propagate_step, q)
 
     step_more : (gone : ℕ) → Found z z.width z.height cells p after (Some gone) →
-        propagate_step z (pending board p) ≡ more (pending (take (z.width * z.height) after) (pending_after z.height p gone))
+        propagate_step z (pending board p) ≡ more (pending (take (z.width * z.height) after) (pending_reduced z.height p gone))
     step_more gone f =
         let i = lowest p in
         let e = next_is f in
         let n = f.found in
-        let low : i < line_count z = lowest_low (line_count z) p f.some_line f.few f.small in
+        let low : i < line_count z = lowest_low 32 (line_count z) p f.some_line f.few f.small in
         let old : List ℕ = line_of z board i in
         let written : write board (line_cells z i) n.0 ≡ take (z.width * z.height) after =
         sym (ap (take (z.width * z.height)) n.2 ∙ take_write (z.width * z.height) cells (line_cells z i) n.0 (λ c m. line_low z i low m)) in
         let same : length n.0 ≡ length old = reduce_length (clue_at z i) old n.0 n.1 in
         let q = n.1 in
         rw (e, propagate_step, q) (ap₂ (λ (b : List ℕ) (q : ℕ). more (pending b q)) written
-        (sym (pend_is z i low board (length-take-le (z.width * z.height) cells f.full) n.0 same p f.few f.small) ∙ ap (λ s. pending_after z.height p s) (sym n.3)))
+        (sym (pend_is z i low board (length-take-le (z.width * z.height) cells f.full) n.0 same p f.few f.small) ∙ ap (λ s. pending_reduced z.height p s) (sym n.3)))
 
 -- ## The loop
 
@@ -136,7 +144,7 @@ module _ {b : Board} {machines : List Machine} {first : ℕ} {a : Board} {p : �
     pos = omega arith
 
     low : lowest p < b.h + b.w
-    low = lowest_low (b.h + b.w) p pos at.few lines_few
+    low = lowest_low 32 (b.h + b.w) p pos at.few lines_few
 
     pub propagating_low : Sized a × (lowest p < a.h + a.w)
     propagating_low =
@@ -170,10 +178,10 @@ module _ {b : Board} {machines : List Machine} {first : ℕ} {a : Board} {p : �
         propagating_narrowed = let z = propagating_low.0 in (sized_as n.size z, cells_low a.w a.h (lowest p) gone z.narrow z.low propagating_low.1 n.few)
 
         abbrev later : ℕ
-        later = pending_after b.h p gone
+        later = pending_reduced b.h p gone
 
         step : (z : Puzzle) → Table z b.w b.h machines → propagate_step z state ≡ more (pending (take (b.w * b.h) d.cells) later)
-        step z t = at_size t (λ w h. Found z w h a.cells p d.cells (Some gone) → propagate_step z (pending (take (w * h) a.cells) p) ≡ more (pending (take (w * h) d.cells) (pending_after h p gone)))
+        step z t = at_size t (λ w h. Found z w h a.cells p d.cells (Some gone) → propagate_step z (pending (take (w * h) a.cells) p) ≡ more (pending (take (w * h) d.cells) (pending_reduced h p gone)))
             (step_more z a.cells p d.cells gone) (found (Some gone) n z t)
 
         module _ {woken : ℕ} (e : woken ≡ crossed d.h (lowest p) gone) where
