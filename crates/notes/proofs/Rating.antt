@@ -3,7 +3,7 @@ use mathlib.Core.Path.{◌≡◌, refl, sym, ap, ◌∙◌}
 use mathlib.Core.Bool.{Bool, true, false}
 use mathlib.Core.List.{List, [], ◌∷◌, map}
 use mathlib.Core.Option as Math
-use Prim.Native.Nat.{ℕ, ◌+◌, ◌≤◌, max, min}
+use Prim.Native.Nat.{ℕ, ◌+◌, ◌≤◌, ◌<◌, max, min}
 use native.Mathlib.Omega.{arith}
 use lib.ListN.{length, get_or, replicate}
 use lib.Ieee.{Float}
@@ -21,7 +21,9 @@ use Rattle.queues.specs.declared.Queue.{Queue}
 use Rattle.queues.specs.Entries.{queue_of, Holds}
 use Rattle.notes.specs.declared.round.Notes.{Notes}
 use Rattle.notes.specs.declared.round.Note.{Note}
-use Rattle.notes.specs.Round.{note_of, notes_of, solves}
+use Rattle.notes.specs.Round.{note_of, note_at, notes_of, solves}
+use Rattle.notes.specs.Choosing.{rate_of}
+use Rattle.notes.proofs.Noting.{note_at_lem}
 
 -- ## The largest and the smallest
 
@@ -67,6 +69,9 @@ module _ (t : Note) (r : Option ℕ) where
 module _ (b : List ℕ) (ns : Notes) where
   abbrev rates : ℕ → Math.Option Float
   rates = rate_at b (notes_of ns)
+
+  rate_at_lem : (c : ℕ) → c < ns.n → rates c ≡ rate_of (get_or b c 0) (note_at ns c)
+  rate_at_lem c h = ap (rate_of (get_or b c 0)) (sym (note_at_lem ns c h))
 
   -- the loop that fills the queue: the cells below i are rated
   abbrev pub Rated : Queue → ℕ → Type 0

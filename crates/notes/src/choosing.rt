@@ -41,7 +41,7 @@ pub fn cell_order(notes: &Notes, board: &[u8]) -> Queue
     for (i, s) in board.iter().enumerate() {
         let c = CellNo(i as u16);
         if let Some(rate) = rate_if(notes.at(c), *s) {
-            q = q.push(c, rate);
+            q.wait(c, rate);
         }
     }
     q

@@ -14,7 +14,7 @@ loop-i-preserved c =
     let l = c.loop-i in
     let rate = ap (rate_of (get_or c.args.board.now l.i 0)) c.at.ensures in
     elim c.match-rate_if.branch [
-      | in-Some w ↦ rw w.q-is (rated_push _ c.args.notes.now l.q l.i l.invariant _ _ (w.in-Some.ensures ∙ rate) w.push-q.ensures)
+      | in-Some w ↦ rw w.q-is (rated_push _ c.args.notes.now l.q l.i l.invariant _ _ (w.in-Some.ensures ∙ rate) w.wait.ensures)
       | in_default w ↦ rw w.q-is (rated_pass _ c.args.notes.now l.q l.i l.invariant (w.in_default.ensures ∙ rate))
     ]
 
