@@ -33,7 +33,7 @@ pub fn has(s: u8, x: Colour) -> bool
 pub fn is_solved(s: u8) -> bool
     ensures { result ≡ single s }
 {
-    u8::count_ones(s) == 1
+    s.count_ones() == 1
 }
 
 // The set without a colour.
