@@ -30,7 +30,7 @@ pub fn rate_of(max: u8, min: u8) -> f64
     requires { min ≤ max }
     ensures { result ≡ Floats.rate max min }
 {
-    root(max, min) + min as f64
+    root(max, min) + f64::from(min)
 }
 
 // (4 minus unsolved neighbours, plus row rate) plus column rate; a rate is solved cells divided by the line's length.
@@ -45,9 +45,9 @@ pub fn priority(
     requires { unsolved ≤ 4 }
     ensures { result ≡ Floats.priority_of unsolved row_solved row_length column_solved column_length }
 {
-    let row_rate = (row_solved as f64) / (row_length as f64);
-    let column_rate = (column_solved as f64) / (column_length as f64);
-    ((4 - unsolved) as f64 + row_rate) + column_rate
+    let row_rate = f64::from(row_solved) / f64::from(row_length);
+    let column_rate = f64::from(column_solved) / f64::from(column_length);
+    (f64::from(4 - unsolved) + row_rate) + column_rate
 }
 
 // The first is the higher.

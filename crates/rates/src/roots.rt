@@ -20,7 +20,7 @@ pub fn root(max: u8, min: u8) -> f64
     ensures value { result ≡ Floats.root (Floats.quotient max min) }
     ensures nearest { Nearest (Floats.quotient max min) result }
 {
-    let quotient = (max as f64) / ((min as u64 + 1) as f64);
+    let quotient = f64::from(max) / f64::from(u16::from(min) + 1);
     if quotient == 0.0 || quotient == 1.0 {
         return quotient;
     }
