@@ -1,17 +1,16 @@
 -- The final check, line by line.
 use mathlib.Core.Path.{◌≡◌, refl, sym, ap, ◌∙◌}
-use mathlib.Core.Bool.{Bool, true, false}
+use mathlib.Core.Bool.{Bool, ◌&&◌}
 use mathlib.Core.List.{List, map}
-use Prim.Native.Nat.{ℕ, ◌+◌, ◌*◌, ◌<◌}
-use native.Mathlib.Omega.{arith}
+use Prim.Native.Nat.{ℕ, zero, suc, ◌+◌, ◌*◌}
+use native.Mathlib.Numerals.{add-one}
 use lib.ListN.{length}
-use Rattle.rules.specs.Lists.{from}
+use Rattle.std.specs.List.{list_all, range_with_len}
+use Rattle.rules.specs.Lists.{every, from}
 use Rattle.rules.specs.Sets.{only}
 use Rattle.rules.specs.Lines.{fits}
 use Rattle.rules.specs.Boards.{Puzzle, line_count, line_of, clue_at}
 use Rattle.rules.specs.Propagation.{check}
-use Rattle.rules.proofs.Tests.{by_test, clash}
-use Rattle.rules.proofs.Lists.{In, every_in, every_out, from_low, below}
 use Rattle.rules.proofs.Fitting.{check_meets}
 use Rattle.lines.specs.declared.machine.Machine.{Machine}
 use Rattle.boards.specs.declared.board.Board.{Board}
@@ -23,10 +22,6 @@ use Rattle.boards.proofs.Sizes.{board_length, at_size}
 -- some line is arranged in the sets of line j
 abbrev pub line_fits : Puzzle → Board → ℕ → Bool
 line_fits z b j = fits (clue_at z j) (line_of z (board_of b) j)
-
--- the lines before i passed
-abbrev pub Checked : Board → List Machine → ℕ → Type 0
-Checked b machines i = (z : Puzzle) → Table z b.w b.h machines → (j : ℕ) → j < i → line_fits z b j ≡ true
 
 module _ (b : Board) (machines : List Machine) (s : Sized b) (long : length b.cells ≡ 256) where
   -- what the final check means: every line meets its clue
@@ -40,16 +35,11 @@ module _ (b : Board) (machines : List Machine) (s : Sized b) (long : length b.ce
         (λ p. m.0 (sym same ∙ p), λ p. same ∙ m.1 p);
   }
 
-  pub checked_fails : (i : ℕ) → i < b.h + b.w → ((z : Puzzle) → Table z b.w b.h machines → line_fits z b i ≡ false) → Passes b machines false
+  -- the lines were tested from the first on
+  pub checked : (r : Bool) → ((z : Puzzle) → Table z b.w b.h machines → r ≡ list_all (line_fits z b) (range_with_len 0 (b.h + b.w))) → Passes b machines r
   unfolding check
-  checked_fails i l f = check_passes false (λ z t. by_test (check z (board_of b))
-      (λ e. clash (every_out (line_fits z b) (from 0 (line_count z)) e (line z t)) (f z t))
-      (λ e. sym e))
+  checked r f = check_passes r (λ z t. f z t ∙ all_range (line_fits z b) 0 (b.h + b.w) ∙ at_size t (λ w h. every (line_fits z b) (from 0 (h + w)) ≡ every (line_fits z b) (from 0 (line_count z))) refl)
     where
-      line : (z : Puzzle) → Table z b.w b.h machines → In i (from 0 (line_count z))
-      line z t = at_size t (λ w h. i < h + w → In i (from 0 (line_count z))) (below (line_count z) i) l
-
-  pub checked_end : Checked b machines (b.h + b.w) → Passes b machines true
-  unfolding check
-  checked_end f = check_passes true (λ z t. sym (every_in (line_fits z b) (from 0 (line_count z))
-      (λ j m. f z t j (at_size t (λ w h. j < h + w) (let k = from_low 0 (line_count z) m in omega arith)))))
+      all_range : (p : ℕ → Bool) (i n : ℕ) → list_all p (range_with_len i n) ≡ every p (from i n)
+      all_range p i zero = refl
+      all_range p i (suc n) = ap (λ v. p i && v) (rw add-one (all_range p (suc i) n))

@@ -71,11 +71,6 @@ impl Board {
         requires { Sized self × Playable self.w self.h machines.now }
         ensures { Passes self machines.now result }
     {
-        for i in 0..self.h + self.w {
-            if !self.line_fits(machines, i) {
-                return false;
-            }
-        }
-        true
+        (0..self.h + self.w).all(|i| self.line_fits(machines, i))
     }
 }

@@ -1,12 +1,14 @@
-use mathlib.Core.Path.{sym, ◌∙◌}
-use native.Mathlib.Omega.{arith}
-use Rattle.std.proofs.Common.{rules}
-use Rattle.boards.proofs.Checking.{checked_fails, checked_end}
+use Rattle.std.proofs.Common.{◌+◌, refl, arith, rules, tests}
+use Rattle.std.proofs.lemmas.Iterator.{YieldsList-from_range, serves_from_Range}
+use Rattle.std.proofs.lemmas.Iterator.Search.{all_from_yields_List}
+use Rattle.boards.proofs.Checking.{line_fits, checked}
 use Rattle.boards.proofs.board.Board.check.Goals as goal
 
-pub returns-then-not-line_fits : goal.returns-then-not-line_fits
-returns-then-not-line_fits c =
-    checked_fails c.args.self _ c.requires.0 (search rules) c.loop-i.i c.loop-i-test.true (λ z t. sym (c.line_fits.ensures z t) ∙ c.if-not-line_fits.true)
+pub all-requires : goal.all-requires
+all-requires c = record { can = tt; finite = tt; callable = serves_from_Range (λ x q k. search (rules, tests)) (λ x low high. search rules) }
 
 pub returns : goal.returns
-returns c = checked_end c.args.self _ c.requires.0 (search rules) (λ z t j l. c.loop-i.invariant z t j (let x = c.loop-i-test.false in omega arith))
+returns c =
+    let b = c.args.self in
+    checked b _ c.requires.0 (search rules) c.all.result
+    (λ z t. all_from_yields_List (line_fits z b) _ _ c.all.result c.all.ensures.ran (YieldsList-from_range 0 (b.h + b.w) (b.h + b.w) refl (omega arith)) (λ x r q k. search (rules, tests)))

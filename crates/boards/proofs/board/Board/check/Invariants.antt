@@ -1,6 +1,0 @@
--- The invariant: the lines before i fit, whatever puzzle the table is of.
-use Rattle.boards.proofs.Checking.{Checked}
-use Rattle.boards.proofs.board.Board.check.Given as goal
-
-abbrev pub invariant-loop-i : goal.invariant-loop-i
-invariant-loop-i l = Checked l.self l.machines l.i
