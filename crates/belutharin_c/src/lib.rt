@@ -57,16 +57,9 @@ pub extern "C" fn belutharin_reduce_line(k: usize, clue: &[u8], cells: &mut [u8]
 pub extern "C" fn belutharin_rate(max: u64, min: u64, rate: &mut f64) -> u8
     ensures { Answered max min result rate.new }
 {
-    match rates::rate(max, min) {
-        Ok(found) => {
-            *rate = found;
-            0
-        }
-        Err(refusal) => {
-            *rate = 0.0;
-            refusal.number()
-        }
-    }
+    let (number, found) = rates::numbered(rates::rate(max, min));
+    *rate = found;
+    number
 }
 
 // Grid number i of n in a list: its number, and through the last two where its part starts in the list and the part's size, both 0 if it is refused.

@@ -42,12 +42,10 @@ fn line(rt: &impl Print, max: u64, min: u64) -> io::Result<()> {
     println!(rt; "{max}\t{min}\t{number}\t{bits:016x}")
 }
 
-// The number that comes with a rate, and the rate's bits, which is never a NaN; the number of a refusal, and no bits.
+// The number, and the bits of the rate, which is never a NaN.
 fn answer(max: u64, min: u64) -> (u8, u64) {
-    match rates::rate(max, min) {
-        Ok(rate) => (0, rate.to_bits()),
-        Err(refusal) => (refusal.number(), 0),
-    }
+    let (number, rate) = rates::numbered(rates::rate(max, min));
+    (number, rate.to_bits())
 }
 
 // How many pairs were summed, and their sum: each step takes 33 times the sum so far, and the bits of one more rate.

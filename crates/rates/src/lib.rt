@@ -24,6 +24,17 @@ pub fn rate(max: u64, min: u64) -> Result<f64, Refusal>
     }
 }
 
+// The number and the rate that the caller of a rate is given: 0 with a rate, and the number of a refusal with 0.0.
+pub fn numbered(answer: Result<f64, Refusal>) -> (u8, f64)
+    ensures number { result.0 ≡ (rate_answer answer).number }
+    ensures rate { result.1 ≡ (rate_answer answer).rate }
+{
+    match answer {
+        Ok(rate) => (0, rate),
+        Err(refusal) => (refusal.number(), 0.0),
+    }
+}
+
 // The rate of legal counts, which the search has: sqrt(max/(min+1)) + min.
 #[tactic(auto, unfolding(rules::specs::Floats::rate))]
 pub fn rate_of(max: u8, min: u8) -> f64

@@ -7,8 +7,6 @@ pub fn agrees(case: &mut Vectors) -> bool {
     let min = case.number();
     let number = case.number();
     let bits = case.number();
-    match rates::rate(max, min) {
-        Ok(rate) => number == 0 && rate.to_bits() == bits,
-        Err(refusal) => u64::from(refusal.number()) == number && bits == 0,
-    }
+    let (found, rate) = rates::numbered(rates::rate(max, min));
+    u64::from(found) == number && rate.to_bits() == bits
 }

@@ -1,7 +1,5 @@
--- A refusal comes with 0.0.
-use lib.Ieee.{of_int, of_bits}
+-- The number and the rate are those that `numbered` gives of the answer.
 use Rattle.belutharin_c.proofs.belutharin_rate.Goals as goal
 
-pub returns-in-Err : goal.returns-in-Err
-unfolding of_int of_bits
-returns-in-Err c = rw c.number.ensures c.in-Err.ensures
+pub returns : goal.returns
+returns c = rw (c.numbered-number.ensures.number, c.numbered-number.ensures.rate) c.rate.ensures
