@@ -66,4 +66,4 @@ module _ {w h : ℕ} {machines : List Machine} (g : Setting w h machines) (l : L
     -- and it is noted
     pub met_left : {a : Rules.Board} → board_of b ≡ a → (n : ℕ) → met g.puzzle (limits_of l) t d ≡ suc n → LeftTo g r list (left not_dead a (note (suc n) t))
     met_left {a} e n z = subst (λ r. LeftTo g r list (left not_dead a (note (suc n) t))) (sym i.is.2)
-        (refl, e, subst (λ k. RunIs g (noted i.is.0 s) list (note k t)) (ap limit_number (sym i.is.1) ∙ asked ∙ z) (noted_matches (w * h) g.lent i.is.0 m))
+        (refl, e, subst (λ k. RunIs g (noted (limit_number (Some i.is.0)) s) list (note k t)) (ap limit_number (sym i.is.1) ∙ asked ∙ z) (noted_matches (w * h) g.lent (limit_number (Some i.is.0)) m))

@@ -18,7 +18,7 @@ use Rattle.queues.specs.Entries.{Holds}
 use Rattle.runs.specs.declared.limits.Limit.{Limit}
 use Rattle.runs.specs.declared.limits.Limits.{Limits as Given}
 use Rattle.runs.specs.declared.limits.Stats.{Stats}
-use Rattle.runs.specs.Stats.{limit_met, noted}
+use Rattle.runs.specs.Stats.{limit_number, limit_met, noted}
 use Rattle.runs.specs.Matches.{limits_of}
 use Rattle.guesses.specs.declared.waiting.Guess.{Guess}
 use Rattle.guesses.specs.declared.waiting.Guesses.{Guesses}
@@ -33,7 +33,7 @@ use Rattle.backtracking.specs.declared.node.Node.{Node}
 -- Limits are asked of a board and its counts: none is met, or one is, and is noted.
 abbrev pub Asked : Board → Stats → Given → ℕ → ControlFlow Ended (Unit {0}) → Type 0
 Asked b s l d (Continue u) = limit_met s l d ≡ None
-Asked b s l d (Break r) = (m : Limit) × (limit_met s l d ≡ Some m) × (r ≡ record { dead = false; board = b; stats = noted m s })
+Asked b s l d (Break r) = (m : Limit) × (limit_met s l d ≡ Some m) × (r ≡ record { dead = false; board = b; stats = noted (limit_number (Some m)) s })
 
 pub record Asks (b : Board) (s : Stats) (l : Given) (d : ℕ) (r : ControlFlow Ended (Unit {0})) : Type 0 where
   pub is : Asked b s l d r

@@ -2,7 +2,7 @@
 ghost use Rattle.backtracking.specs.Comes.{Asks};
 
 use boards::Board;
-use runs::{Limits, Stats, limits_reached};
+use runs::{Limits, Stats, limit_number, limits_reached};
 use std::ops::ControlFlow;
 use std::ops::ControlFlow::{Break, Continue};
 
@@ -23,7 +23,7 @@ pub fn ask(board: Board, stats: Stats, limits: Limits, depth: usize) -> ControlF
         Some(m) => Break(Ended {
             dead: false,
             board,
-            stats: stats.noted(m),
+            stats: stats.noted(limit_number(Some(m))),
         }),
     }
 }

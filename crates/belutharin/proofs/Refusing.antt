@@ -1,5 +1,5 @@
 -- The tests of an input, one after the other: the first that fails gives its number with all untouched, and an input that passes all is accepted.
-use Rattle.std.proofs.Common.{◌≡◌, refl, sym, ap, subst, ◌∙◌, Bool, true, false, ◌&&◌, List, [], ◌∷◌, ◌++◌, replicate, get_or, length, ℕ, ◌+◌, ◌*◌, ◌≤◌, leb, Option, None, Some, Result, Ok, Err}
+use Rattle.std.proofs.Common.{◌≡◌, refl, sym, ap, subst, ◌∙◌, Bool, true, false, ◌&&◌, List, [], ◌∷◌, ◌++◌, replicate, get_or, length, ℕ, ◌+◌, ◌*◌, ◌≤◌, leb, Result, Ok, Err}
 use Rattle.std.proofs.Math.Option as Math
 use Rattle.std.specs.Prelude.{IsErrAnd}
 use borrow.Author.Tests.{leb-true}
@@ -14,10 +14,7 @@ use Rattle.rules.specs.Promises.{Accepted, Promised}
 use Rattle.rules.proofs.Tests.{passed, and_true}
 use Rattle.rules.proofs.Accepting.{few_colours, accepted_searched}
 use Rattle.rules.proofs.Promises.{solve_promised}
-use Rattle.runs.specs.declared.limits.Limit.{Limit}
-use Rattle.runs.specs.declared.limits.Limit.TheVariants.{Grids, Steps, Depth}
 use Rattle.runs.specs.declared.limits.Stats.{Stats}
-use Rattle.runs.specs.Stats.{limit_number}
 use Rattle.belutharin.specs.Refusals.{accept_numbers, accept_lent}
 use Rattle.belutharin.specs.Answers.{outcome_number, answer}
 use Rattle.belutharin.specs.declared.answers.Outcome.{Outcome}
@@ -133,9 +130,6 @@ kinds : List (Result Outcome Refusal)
 kinds = replicate 2 (Ok Solved) ++ (Ok Listed ∷ Ok DeadEnd ∷ []) ++ replicate 7 (Ok Solved)
     ++ (Err Sides ∷ Err Colours ∷ Err Limits ∷ Err Clues ∷ Err Cells ∷ Err Variants.List ∷ []) ++ replicate 2 (Ok Solved) ++ (Err Rate ∷ Err Grid ∷ [])
 
-met : List (Option Limit)
-met = None ∷ Some Grids ∷ Some Steps ∷ Some Depth ∷ []
-
 outcome_at : (o : Outcome) → get_or kinds (outcome_number o) (Ok Solved) ≡ Ok o
 unfolding kinds
 outcome_at Solved = refl
@@ -153,25 +147,18 @@ refusal_at Variants.List = refl
 refusal_at Rate = refl
 refusal_at Grid = refl
 
-limit_at : (m : Option Limit) → get_or met (limit_number m) None ≡ m
-unfolding met
-limit_at None = refl
-limit_at (Some Grids) = refl
-limit_at (Some Steps) = refl
-limit_at (Some Depth) = refl
-
 with_counts : Result Outcome Refusal → Stats → Result Answer Refusal
 with_counts (Ok o) s = Ok (record { outcome = o; stats = s })
 with_counts (Err e) s = Err e
 
 -- so that the numbers tell what they are the numbers of
 result_of : Rules.Answer → Result Answer Refusal
-result_of v = with_counts (get_or kinds v.number (Ok Solved)) (record { grids = v.grids; steps = v.steps; deepest = v.deepest; limit = get_or met v.limit None })
+result_of v = with_counts (get_or kinds v.number (Ok Solved)) (record { grids = v.grids; steps = v.steps; deepest = v.deepest; limit = v.limit })
 
 told : (r : Result Answer Refusal) (cells list : List ℕ) → result_of (answer r cells list) ≡ r
 unfolding result_of with_counts
-told (Ok a) cells list = λ j. with_counts (outcome_at a.outcome j) (record a.stats { limit = limit_at a.stats.limit j })
-told (Err e) cells list = ap (λ k. with_counts k (record { grids = 0; steps = 0; deepest = 0; limit = get_or met 0 None })) (refusal_at e)
+told (Ok a) cells list = ap (λ k. with_counts k a.stats) (outcome_at a.outcome)
+told (Err e) cells list = ap (λ k. with_counts k (record { grids = 0; steps = 0; deepest = 0; limit = 0 })) (refusal_at e)
 
 -- two results that the contract of `solve` allows for one input are equal: what comes of it with every count, or why it is refused, and every lent byte
 pub one_answer : (a : Asked) (r s : Result Answer Refusal) (cells out list last : List ℕ) → answer r cells list ≡ solve a → answer s out last ≡ solve a → (r ≡ s) × (cells ≡ out) × (list ≡ last)

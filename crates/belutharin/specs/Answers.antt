@@ -14,7 +14,6 @@ use Rattle.boards.specs.declared.board.Board.{Board}
 use Rattle.boards.specs.Board.{board_of, Sized}
 use Rattle.boards.specs.Table.{Table, Playable}
 use Rattle.runs.specs.declared.limits.Limits.{Limits}
-use Rattle.runs.specs.Stats.{limit_number}
 use Rattle.belutharin.specs.declared.answers.TheConstants.{FRESH}
 use Rattle.belutharin.specs.declared.answers.Outcome.{Outcome}
 use Rattle.belutharin.specs.declared.answers.Outcome.TheVariants.{Solved, Listed, DeadEnd}
@@ -33,7 +32,7 @@ outcome_number DeadEnd = 3
 
 -- the five numbers of an answer; a refusal has zeros
 abbrev pub numbers : Result Answer Refusal → Numbers
-numbers (Ok a) = record { number = outcome_number a.outcome; grids = a.stats.grids; steps = a.stats.steps; deepest = a.stats.deepest; limit = limit_number a.stats.limit }
+numbers (Ok a) = record { number = outcome_number a.outcome; grids = a.stats.grids; steps = a.stats.steps; deepest = a.stats.deepest; limit = a.stats.limit }
 numbers (Err e) = record { number = refusal_number e; grids = 0; steps = 0; deepest = 0; limit = 0 }
 
 -- what is given back, and the lent bytes afterwards

@@ -3,7 +3,7 @@ ghost use Rattle.std.specs.Prelude.{◌≡◌};
 ghost use Rattle.belutharin.specs.Answers.{outcome_number, at_once, numbers};
 
 use rules::Refusal;
-use runs::{Stats, limit_number};
+use runs::Stats;
 
 // What comes of a puzzle that is not refused, with the number that its caller is given.
 #[derive(Clone, Copy, Debug, PartialEq, Eq)]
@@ -37,7 +37,7 @@ pub(crate) const FRESH: Stats = Stats {
     grids: 0,
     steps: 0,
     deepest: 0,
-    limit: None,
+    limit: 0,
 };
 
 impl Answer {
@@ -72,7 +72,7 @@ impl From<Result<Answer, Refusal>> for Numbers {
                 grids: stats.grids,
                 steps: stats.steps,
                 deepest: stats.deepest,
-                limit: limit_number(stats.limit),
+                limit: stats.limit,
             },
             Err(refusal) => Numbers {
                 number: refusal.number(),

@@ -34,7 +34,11 @@ pub fn solve(
         budget,
     };
     accept_numbers(w, h, k, limits)?;
-    let machines = &read_table(k, w, h, clues).ok_or(Refusal::Clues)?;
+    // The table is kept where it was read to: it is not small, and not copied.
+    let table = read_table(k, w, h, clues);
+    let Some(machines) = &table else {
+        return Err(Refusal::Clues);
+    };
     accept_lent(k, w, h, most_grids, cells, list)?;
     let task = Task { machines, limits };
     Ok(searched(board_of(w, h, cells), cells, list, task))

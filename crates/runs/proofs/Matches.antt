@@ -8,8 +8,7 @@ use Prim.Native.Nat.{ℕ, zero, suc, ◌+◌, ◌*◌, ◌≤◌, ◌<◌, max}
 use native.Mathlib.Omega.{arith}
 use lib.ListN.{length, get_or, take, drop, length-append}
 use lib.Seq.{paste, take_at, drop-drop, drop-append-add, take_all}
-use Rattle.std.specs.Prelude.{if◌then◌else◌, Option, None, Some, leb, ltb}
-use Rattle.std.specs.Option.{option_or}
+use Rattle.std.specs.Prelude.{if◌then◌else◌, None, Some, leb, ltb}
 use Rattle.rules.specs.Lists.{any, from, joined}
 use Rattle.rules.specs.Boards.{Board, same, Puzzle}
 use Rattle.rules.specs.Probing as Rules
@@ -18,7 +17,6 @@ use Rattle.rules.specs.Search.{met, note, deeper, store_in, store, first_of}
 use Rattle.rules.specs.Answers.{written}
 use Rattle.rules.proofs.Tests.{on_test}
 use Rattle.rules.proofs.Probing.{Quiet}
-use Rattle.runs.specs.declared.limits.Limit.{Limit}
 use Rattle.runs.specs.declared.limits.Limit.TheVariants.{Grids, Steps, Depth}
 use Rattle.runs.specs.declared.limits.Limits.{Limits}
 use Rattle.runs.specs.declared.limits.Stats.{Stats}
@@ -35,13 +33,6 @@ met_number false true c = refl
 met_number false false true = refl
 met_number false false false = refl
 
--- the first limit met has the first number
-first_number : (o : Option Limit) (k : Limit) → limit_number (option_or o (Some k)) ≡ first_of (limit_number o) (limit_number (Some k))
-first_number None k = refl
-first_number (Some Grids) k = refl
-first_number (Some Steps) k = refl
-first_number (Some Depth) k = refl
-
 module _ (n : ℕ) (lent : List ℕ) where
   -- ## Limits and counts
 
@@ -49,15 +40,8 @@ module _ (n : ℕ) (lent : List ℕ) where
   unfolding limit_met met
   met_matches z l {t = t} d m = rw (m.grids, m.steps, limit_met, met) (met_number (leb l.grids (length t.stored)) (leb l.budget (Rules.steps t)) (ltb l.depth d))
 
-  pub noted_matches : {s : Stats} {list : List ℕ} {t : Run} (k : Limit) → Matches n lent s list t → Matches n lent (Counts.noted k s) list (note (limit_number (Some k)) t)
-  noted_matches {s} k m = record {
-    grids = m.grids;
-    steps = m.steps;
-    deepest = m.deepest;
-    limit = first_number s.limit k ∙ ap (λ l. first_of l (limit_number (Some k))) m.limit;
-    bytes = m.bytes;
-    sized = m.sized;
-  }
+  pub noted_matches : {s : Stats} {list : List ℕ} {t : Run} (k : ℕ) → Matches n lent s list t → Matches n lent (Counts.noted k s) list (note k t)
+  noted_matches k m = record { grids = m.grids; steps = m.steps; deepest = m.deepest; limit = ap (λ l. first_of l k) m.limit; bytes = m.bytes; sized = m.sized }
 
   pub deeper_matches : {s : Stats} {list : List ℕ} {t : Run} (d : ℕ) → Matches n lent s list t → Matches n lent (Counts.deeper d s) list (deeper d t)
   deeper_matches d m = record { grids = m.grids; steps = m.steps; deepest = ap (λ e. max e (suc d)) m.deepest; limit = m.limit; bytes = m.bytes; sized = m.sized }

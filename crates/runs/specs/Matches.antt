@@ -7,7 +7,6 @@ use Rattle.rules.specs.Search as Search
 use Rattle.rules.specs.Answers.{written}
 use Rattle.runs.specs.declared.limits.Limits.{Limits}
 use Rattle.runs.specs.declared.limits.Stats.{Stats}
-use Rattle.runs.specs.Stats.{limit_number}
 
 abbrev pub limits_of : Limits → Search.Limits
 limits_of l = record { most_grids = l.grids; most_depth = l.depth; budget = l.budget }
@@ -17,6 +16,6 @@ pub record Matches (n : ℕ) (lent : List ℕ) (s : Stats) (list : List ℕ) (t 
   pub grids : s.grids ≡ length t.stored
   pub steps : s.steps ≡ Rules.steps t
   pub deepest : s.deepest ≡ t.deepest
-  pub limit : limit_number s.limit ≡ t.limit
+  pub limit : s.limit ≡ t.limit
   pub bytes : list ≡ written t.stored lent
   pub sized : (g : Board) → Memᴰ g t.stored → length g ≡ n

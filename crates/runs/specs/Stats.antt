@@ -1,6 +1,6 @@
 -- The counts of a run by value.
 use Rattle.std.specs.Prelude.{if◌then◌else◌, Option, None, Some, ℕ, suc, ◌+◌, max, leb, ltb}
-use Rattle.std.specs.Option.{option_or}
+use Rattle.rules.specs.Search.{first_of}
 use Rattle.runs.specs.declared.limits.Limit.{Limit}
 use Rattle.runs.specs.declared.limits.Limit.TheVariants.{Grids, Steps, Depth}
 use Rattle.runs.specs.declared.limits.Limits.{Limits}
@@ -18,8 +18,8 @@ unfoldable pub limit_met : Stats → Limits → ℕ → Option Limit
 limit_met s l d = (if leb l.grids s.grids then Some Grids else (if leb l.budget s.steps then Some Steps else (if ltb l.depth d then Some Depth else None)))
 
 -- the first limit met is kept
-abbrev pub noted : Limit → Stats → Stats
-noted m s = record s { limit = option_or s.limit (Some m) }
+abbrev pub noted : ℕ → Stats → Stats
+noted m s = record s { limit = first_of s.limit m }
 
 abbrev pub stepped : ℕ → Stats → Stats
 stepped n s = record s { steps = s.steps + n }

@@ -30,13 +30,13 @@ pub fn limit_number(limit: Option<Limit>) -> u8
     }
 }
 
-// Grids stored, steps, deepest, and the first limit met.
+// Grids stored, steps, deepest, and the first limit met by its number, 0 for none.
 #[derive(Clone, Copy)]
 pub struct Stats {
     pub grids: usize,
     pub steps: u64,
     pub deepest: usize,
-    pub limit: Option<Limit>,
+    pub limit: u8,
 }
 
 // The limit that is met, asked in this order: grids, steps, depth.
@@ -57,14 +57,14 @@ pub fn limits_reached(s: Stats, l: Limits, depth: usize) -> Option<Limit>
 }
 
 impl Stats {
-    // The first limit met is kept.
-    pub fn noted(self, m: Limit) -> Stats
+    // The first limit met is kept, whatever its number.
+    pub fn noted(self, m: u8) -> Stats
         ensures { result ≡ noted m self }
     {
-        Stats {
-            limit: self.limit.or(Some(m)),
-            ..self
+        if self.limit == 0 {
+            return Stats { limit: m, ..self };
         }
+        self
     }
 
     // More steps.
