@@ -99,7 +99,7 @@ taken_holds q c {h} l = record {
 -- what the leader is decides what is taken out
 module _ (q : Queue) where
   pub none_taken : Math.none ≡ leader higher (queue_of q) (from 0 q.n) Math.none → TakenFrom q None q
-  none_taken e = record { first = sym (none_pops higher (queue_of q) q.n (queue_length q) e); below = tt; size = refl }
+  none_taken e = record { first = sym (none_pops higher (queue_of q) q.n (queue_length q) e); below = tt; size = refl; kept = λ _. refl }
 
   module _ (c : ℕ) (p : Float) (e : Math.some (c, p) ≡ leader higher (queue_of q) (from 0 q.n) Math.none) where
     pops : pop higher (queue_of q) ≡ Math.some (c, set (queue_of q) c Math.none)
@@ -109,4 +109,4 @@ module _ (q : Queue) where
     leader_low = rw (← queue_length q) (pop_low (queue_of q) c _ (pop_some higher (queue_of q) _ _ pops))
 
     pub some_taken : {h : q.n ≤ 256} → Long q → TakenFrom q (Some (record { 0 = c })) (taken q c h)
-    some_taken {h} l = let u = taken_holds q c {h = h} l in record { first = rw u.queue (sym pops); below = leader_low; size = refl }
+    some_taken {h} l = let u = taken_holds q c {h = h} l in record { first = rw u.queue (sym pops); below = leader_low; size = refl; kept = λ e. cc }

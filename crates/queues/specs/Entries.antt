@@ -33,11 +33,12 @@ abbrev pub taken_of : Option CellNo → Queue → Math.Option (Cell × CellQueue
 taken_of None r = Math.none
 taken_of (Some c) r = Math.some (c.0, queue_of r)
 
--- what taking out of q gives: a cell, if one waits, and the queue r then
+-- what taking out of q gives: a cell, if one waits, and the queue r then; where none waits the queue is as it was
 pub record TakenFrom (q : Queue) (o : Option CellNo) (r : Queue) : Type 0 where
   pub first : taken_of o r ≡ pop higher (queue_of q)
   pub below : IfSome o (λ c. c.0 < q.n)
   pub size : r.n ≡ q.n
+  pub kept : o ≡ None → r ≡ q
 
 -- the cell popped, and the queue without it
 abbrev pub popped_of : Option (CellNo × Queue) → Math.Option (Cell × CellQueue)

@@ -1,7 +1,8 @@
 -- What is answered where a rate is asked for: accepted counts have their rate, all others are refused with 0.0, and one question has one answer.
-use Rattle.std.proofs.Common.{◌≡◌, ℕ, ◌<◌, ◌≤◌, Bool, true, false, ◌&&◌, leb, ◌⊎◌, sym, refl, ap, ◌∙◌, subst, ⊎_elim, arith, lit≤, le-leb, leb-true}
+use Rattle.std.proofs.Common.{◌≡◌, ℕ, ◌<◌, ◌≤◌, Bool, true, false, ◌&&◌, leb, Result, Ok, Err, ◌⊎◌, sym, refl, ap, ◌∙◌, subst, ⊎_elim, arith, lit≤, le-leb, leb-true}
 use lib.Ieee.{Float}
 use borrow.Author.Tests.{lt-leb}
+use Rattle.rules.specs.declared.Refusal.{Refusal}
 use Rattle.rules.specs.Floats.{float, rate}
 use Rattle.rules.specs.Roots.{Plain}
 use Rattle.rules.specs.Answers.{RateAnswer, rate_asked}
@@ -9,7 +10,7 @@ use Rattle.rules.proofs.Tests.{by_test, and_true, true_and}
 use Rattle.rules.proofs.Plain.{float_plain}
 use Rattle.rules.proofs.Rates.{rate_is}
 use Rattle.rules.proofs.Floats.{rate_plain}
-use Rattle.rates.specs.Answered.{Answered}
+use Rattle.rates.specs.Answered.{rate_answer, Answered}
 
 -- by what the tests of the counts come to
 asked : (max min : ℕ) {b : Bool} → (leb max 255 && leb min max) ≡ b
@@ -44,3 +45,10 @@ answered_plain {max} {min} a =
 -- two answers to one question are equal
 pub one_answer : {max min n m : ℕ} {r s : Float} → Answered max min n r → Answered max min m s → (n ≡ m) × (r ≡ s)
 one_answer f g = (f.numbered ∙ sym g.numbered, f.rated ∙ sym g.rated)
+
+-- and so are two results that the contract of `rate` allows for one question: the rate, or why it is refused
+pub one_result : {max min : ℕ} (a b : Result Float Refusal) → Answered max min (rate_answer a).number (rate_answer a).rate → Answered max min (rate_answer b).number (rate_answer b).rate → a ≡ b
+one_result (Ok r) (Ok s) f g = ap Ok (one_answer f g).1
+one_result (Ok r) (Err e) f g = let n = (one_answer f g).0 in grind arith
+one_result (Err d) (Ok s) f g = let n = (one_answer f g).0 in grind arith
+one_result (Err d) (Err e) f g = let n = (one_answer f g).0 in grind arith

@@ -50,11 +50,13 @@ fn digits(units: u64) -> WholeRoot
         let more = rest * 4 + left / TOP;
         let odd = root * 4 + 1;
         left = left % TOP * 4;
-        (root, rest) = if odd <= more {
-            (root * 2 + 1, more - odd)
+        root *= 2;
+        if odd <= more {
+            root += 1;
+            rest = more - odd;
         } else {
-            (root * 2, more)
-        };
+            rest = more;
+        }
     }
     WholeRoot { root, rest }
 }
