@@ -1,6 +1,6 @@
 -- A line reduced by the machine that the table has for it, on the sets that are gathered of it: what comes of it is what the rules say.
 use mathlib.Core.Path.{◌≡◌, refl, sym, ap, ap₂, subst, ◌∙◌}
-use mathlib.Core.Bool.{not}
+use mathlib.Core.Bool.{Bool, true, false, not}
 use mathlib.Core.List.{List, ◌++◌, map}
 use mathlib.Core.Option.{none, some}
 use Rattle.std.specs.Prelude.{Option, Some, None, is_some}
@@ -19,7 +19,7 @@ use Rattle.rules.proofs.Sets.{set_of-low, set_of-same, lost_differs}
 use Rattle.rules.proofs.Lines.{Bytes, reduce_fits, reduce_unfit, reduce_length, reduce_narrows}
 use Rattle.rules.proofs.Boards.{line_low}
 use Rattle.lines.specs.declared.machine.Machine.{Machine}
-use Rattle.lines.specs.Machines.{reduce_by, closed}
+use Rattle.lines.specs.Machines.{reduce_by, Became, closed}
 use Rattle.lines.proofs.Reducing.{machine_reduces}
 use Rattle.boards.specs.declared.board.Board.{Board}
 use Rattle.boards.specs.declared.line.Line.{Line}
@@ -80,6 +80,12 @@ module _ {b : Board} {machines : List Machine} {i : ℕ} {l : Line} {old : List 
         ∙ machine_reduces 7 (clue_at z i) by_rules (omega arith) (t.plain i r.on)
         (subst (λ s. length s ≤ 16) sets_are (let n = sets_length in let k = few in omega arith)) (subst Bytes sets_are sets_bytes)
 
+  -- whether some line is arranged
+  pub ready_fits : (r : Bool) (out : List ℕ) → Became (reduce_by m (take l.len old)) (take l.len old) r out →
+      (z : Puzzle) → Table z b.w b.h machines → r ≡ fits (clue_at z i) (line_of z (board_of b) i)
+  ready_fits true out e z t = sym (reduce_fits (clue_at z i) (by_rules z t) out (sym (reduces z t) ∙ e))
+  ready_fits false out e z t = sym (reduce_unfit (clue_at z i) (by_rules z t) (sym (reduces z t) ∙ e.0))
+
   -- a contradiction
   pub ready_fails : reduce_by m (take l.len old) ≡ none → Narrows b i machines b None
   ready_fails e = record {
@@ -138,7 +144,7 @@ module _ {b : Board} {machines : List Machine} {i : ℕ} {l : Line} {old : List 
       );
     }
 
--- whether some line is arranged
+-- whether some line is arranged, by what is reduced
 pub narrowed_fits : {b a : Board} {i : ℕ} {machines : List Machine} (r : Option ℕ) → Narrows b i machines a r → (z : Puzzle) → Table z b.w b.h machines →
     is_some r ≡ fits (clue_at z i) (line_of z (board_of b) i)
 narrowed_fits {b} {i = i} None n z t = sym (reduce_unfit (clue_at z i) (line_of z (board_of b) i) (n.to z t).0)

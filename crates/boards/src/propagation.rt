@@ -44,12 +44,14 @@ impl Board {
         Some(differing(old, sets, line.len))
     }
 
-    // Whether some line is arranged in the sets of line i.
-    fn line_fits(mut self, machines: &[Machine; LINES], i: usize) -> bool
-        requires { Sized self × (i < self.h + self.w) }
-        ensures { (z : Puzzle) → Table z self.w self.h machines.now → result ≡ fits (clue_at z i) (line_of z (board_of self) i) }
+    // Whether some line is arranged in the sets of line i; the board is read, and not copied to be reduced.
+    fn line_fits(&self, machines: &[Machine; LINES], i: usize) -> bool
+        requires { Sized self.now × (i < self.now.h + self.now.w) }
+        ensures { (z : Puzzle) → Table z self.now.w self.now.h machines.now → result ≡ fits (clue_at z i) (line_of z (board_of self.now) i) }
     {
-        self.reduce_on(machines, i).is_some()
+        let line = line_of(self.w, self.h, i);
+        let mut sets = gather(&self.cells, line);
+        lines::reduce_by(machines[i], &mut sets[..line.len])
     }
 
     // Propagating from a cell: the board at the end, or none at a contradiction.
@@ -66,11 +68,16 @@ impl Board {
         Some(self)
     }
 
-    // The final check: all rows and columns of a solved board meet their clues.
+    // The final check: all rows and columns of a solved board meet their clues. It goes from the last line to the first, and ends at one that does not.
     pub fn check(self, machines: &[Machine; LINES]) -> bool
         requires { Sized self × Playable self.w self.h machines.now }
         ensures { Passes self machines.now result }
     {
-        (0..self.h + self.w).all(|i| self.line_fits(machines, i))
+        for i in (0..self.h + self.w).rev() {
+            if !self.line_fits(machines, i) {
+                return false;
+            }
+        }
+        true
     }
 }

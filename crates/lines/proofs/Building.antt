@@ -2,7 +2,7 @@
 use Rattle.std.proofs.Common.{◌≡◌, refl, ap, ap₂, sym, ◌∙◌, subst, Bool, true, false, List, [], ◌∷◌, ℕ, zero, suc, ◌+◌, ◌-◌, ◌*◌, ◌/◌, ◌^◌, ◌≤◌, ◌<◌, eqb, leb, length, get_or, set, take, drop, replicate, bit_or, arith, pow-suc, pow_mono, pow_pos, ext_get_or, take_all, get_or-drop, length-drop, leb-true}
 use lib.Bits.{or_lt}
 use lib.ListN.{length-replicate, length-map, get_or-map}
-use lib.Seq.{drop-cons}
+use lib.Seq.{drop-cons, drop-drop}
 use mir.Val.{bool_byte}
 use Rattle.rules.specs.Sets.{Colour}
 use Rattle.rules.specs.Lists.{every}
@@ -205,3 +205,38 @@ blanks_same bytes j l e =
 pub blanks_other : (bytes : List ℕ) (j : ℕ) → j < length bytes / 2 → (get_or bytes (2 * (j - 1)) 0 ≡ get_or bytes (2 * j) 0 → ⊥) → [] ≡ between (block_at bytes (j - 1)) (rest_at bytes j)
 blanks_other bytes j l n =
     sym (ap (between (block_at bytes (j - 1))) (rest_cons bytes j l) ∙ between_other (block_at bytes (j - 1)) (block_at bytes j) (rest_at bytes (suc j)) n)
+
+-- ## The blocks from a block on, as a slice
+
+-- the bytes from block j on
+abbrev pub tail : List ℕ → ℕ → List ℕ
+tail bytes j = take (length bytes - 2 * j) (drop (2 * j) bytes)
+
+tail_is : (bytes : List ℕ) (j : ℕ) → tail bytes j ≡ drop (2 * j) bytes
+tail_is bytes j = take_all (length bytes - 2 * j) (drop (2 * j) bytes) (omega (arith, length-drop (2 * j) bytes))
+
+pub tail_some : (bytes : List ℕ) (j : ℕ) → j < length bytes / 2 → 2 ≤ length (tail bytes j)
+tail_some bytes j h = rw tail_is (let l = length-drop (2 * j) bytes in omega arith)
+
+pub tail_whole : (bytes : List ℕ) (j : ℕ) → clue_in (tail bytes j) ≡ rest_at bytes j
+tail_whole bytes j = ap clue_in (tail_is bytes j)
+
+tail_rest : (bytes : List ℕ) (j : ℕ) → rest_in (tail bytes j) ≡ rest_at bytes (suc j)
+tail_rest bytes j =
+    let e : 2 * j + 2 ≡ 2 * suc j = omega arith in
+    ap (λ l. clue_in (drop 2 l)) (tail_is bytes j) ∙ ap clue_in (drop-drop 2 (2 * j) bytes ∙ ap (λ n. drop n bytes) e)
+
+-- the rest of the blocks from the one before
+pub tail_down : (bytes : List ℕ) (j : ℕ) → 0 < j → rest_at bytes j ≡ rest_in (tail bytes (j - 1))
+tail_down bytes j h = let e : j ≡ suc (j - 1) = omega arith in ap (rest_at bytes) e ∙ sym (tail_rest bytes (j - 1))
+
+-- they are coloured and fit, as all blocks do
+pub tail_fits : (bytes : List ℕ) → Coloured (clue_in bytes) × (need (clue_in bytes) ≤ 16) → (j : ℕ) → j ≤ length bytes / 2 → Coloured (clue_in (tail bytes j)) × (need (clue_in (tail bytes j)) ≤ 16)
+tail_fits bytes fits j h = subst Fit (sym (tail_whole bytes j)) (go j h)
+  where
+    Fit : Clue → Type 0
+    Fit clue = Coloured clue × (need clue ≤ 16)
+
+    go : (j : ℕ) → j ≤ length bytes / 2 → Fit (rest_at bytes j)
+    go zero h = fits
+    go (suc j) h = subst Fit (tail_rest bytes j) (rest_fits (tail bytes j) (tail_some bytes j (omega arith)) (subst Fit (sym (tail_whole bytes j)) (go j (omega arith))))

@@ -87,22 +87,19 @@ fn need(pairs: &[u8]) -> usize
     }
 }
 
-// The machine of a clue that fits some line.
+// The machine of a clue that fits some line, from its last block to its first. A call for each block takes half as many instructions again.
 fn build(pairs: &[u8]) -> Machine
     requires { Coloured (clue_in pairs.now) × (need (clue_in pairs.now) ≤ 16) }
     ensures { result ≡ machine (clue_in pairs.now) }
 {
-    match pairs {
-        [colour, cells, rest @ ..] => {
-            let m = push_all(build(rest), 0, blanks_between(pairs));
-            let m = push_all(m, usize::from(*colour), usize::from(*cells));
-            Machine {
-                gap: m.gap | 1,
-                ..m
-            }
-        }
-        _ => empty(),
+    let mut m = empty();
+    for j in (0..pairs.len() / 2).rev() {
+        let blocks = &pairs[2 * j..];
+        m = push_all(m, 0, blanks_between(blocks));
+        m = push_all(m, usize::from(blocks[0]), usize::from(blocks[1]));
+        m.gap |= 1;
     }
+    m
 }
 
 // The machine of the clue that pairs of colour and length mean.

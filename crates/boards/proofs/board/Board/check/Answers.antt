@@ -1,14 +1,15 @@
-use Rattle.std.proofs.Common.{◌+◌, refl, arith, rules, tests}
-use Rattle.std.proofs.lemmas.Iterator.{YieldsList-from_range, serves_from_Range}
-use Rattle.std.proofs.lemmas.Iterator.Search.{all_from_yields_List}
-use Rattle.boards.proofs.Checking.{line_fits, checked}
+use Rattle.std.proofs.Common.{sym, arith, rules}
+use Rattle.boards.proofs.Checking.{checked_turn, checked_fails, checked_end}
 use Rattle.boards.proofs.board.Board.check.Goals as goal
 
-pub all-requires : goal.all-requires
-all-requires c = record { can = tt; finite = tt; callable = serves_from_Range (λ x q k. search (rules, tests)) (λ x low high. search rules) }
+pub loop-i-init : goal.loop-i-init
+loop-i-init c = λ z t j k m. absurd (omega arith)
+
+pub loop-i-preserved : goal.loop-i-preserved
+loop-i-preserved c = let l = c.loop-i in checked_turn c.args.self c.args.machines.now c.requires.0 (search rules) l.i l.invariant (omega arith) (λ z t. sym (c.if-not-line_fits.ensures z t))
+
+pub returns-then-not-line_fits : goal.returns-then-not-line_fits
+returns-then-not-line_fits c = let l = c.loop-i in checked_fails c.args.self c.args.machines.now c.requires.0 (search rules) l.i (omega arith) (omega arith) (λ z t. sym (c.if-not-line_fits.ensures z t))
 
 pub returns : goal.returns
-returns c =
-    let b = c.args.self in
-    checked b _ c.requires.0 (search rules) c.all.result
-    (λ z t. all_from_yields_List (line_fits z b) _ _ c.all.result c.all.ensures.ran (YieldsList-from_range 0 (b.h + b.w) (b.h + b.w) refl (omega arith)) (λ x r q k. search (rules, tests)))
+returns c = checked_end c.args.self c.args.machines.now c.requires.0 (search rules) (λ z t j k m. c.loop-i.invariant z t j (omega arith) m)
