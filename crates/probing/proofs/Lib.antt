@@ -6,4 +6,5 @@ pub mod Starting
 pub mod Assuming
 pub mod Impacts
 pub mod Cutting
+pub mod Arrays
 pub mod Running

@@ -28,7 +28,7 @@ fn say(rt: &impl Print, grid: u64, agrees: bool) -> io::Result<()> {
 
 // Grid 7: the rate of 256 and 0 is refused.
 fn refused_rate() -> bool {
-    rates::rate(256, 0).is_err_and(|refusal| refusal.number() == 19)
+    rates::numbered(rates::rate(256, 0)) == (19, 0.0)
 }
 
 // Grid 13: Twin with most grids 2, and 0.
